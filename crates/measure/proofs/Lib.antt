@@ -1,0 +1,4 @@
+pub mod Product
+pub mod Determined
+pub mod Row
+pub mod Unique

@@ -1,0 +1,47 @@
+-- Laws of lists and lent rows: one place more of a list, and one store more after what is written already.
+-- Assumes nothing.
+use mathlib.Core.Path.{_≡_, _∙_, refl, sym, ap}
+use mathlib.Core.List.{List, [], _∷_, _++_, append-assoc}
+use Prim.Native.Nat.{ℕ, zero, suc, _+_, _<_}
+use native.Mathlib.Nat.{add-zero}
+use native.Mathlib.Numerals.{add-one}
+use native.Mathlib.Omega.{arith}
+use lib.ListN.{length, getD, drop, set, length-append}
+use lib.Seq.{drop-cons, set-at}
+use Rattle.measure.specs.Row.{listed, over}
+
+pub length-listed : (f : ℕ → ℕ) (i k : ℕ) → length (listed f i k) ≡ k
+unfolding listed
+length-listed f i zero = refl
+length-listed f i (suc k) = ap suc (length-listed f (suc i) k)
+
+listed-suc : (f : ℕ → ℕ) (i k : ℕ) → listed f i (suc k) ≡ listed f i k ++ (f (i + k) ∷ [])
+unfolding listed
+listed-suc f i zero = rw add-zero
+listed-suc f i (suc k) =
+    let next : suc i + k ≡ i + suc k = omega arith in
+    ap (λ (l : List ℕ). f i ∷ l) (listed-suc f (suc i) k ∙ ap (λ (n : ℕ). listed f (suc i) k ++ (f n ∷ [])) next)
+
+-- a list with one place more
+pub listed-more : (f : ℕ → ℕ) (k : ℕ) → listed f 0 (k + 1) ≡ listed f 0 k ++ (f k ∷ [])
+listed-more f k =
+    let same : 0 + k ≡ k = omega arith in
+    ap (listed f 0) (add-one k) ∙ listed-suc f 0 k ∙ ap (λ (n : ℕ). listed f 0 k ++ (f n ∷ [])) same
+
+-- one store more, at the end of what is written
+pub put : (new row now : List ℕ) (v n : ℕ) → now ≡ over new row → length new ≡ n → n < length row
+    → set now n v ≡ over (new ++ (v ∷ [])) row
+unfolding over
+put new row now v n e k h =
+    let w : suc n ≡ length (new ++ (v ∷ [])) = omega (arith, length-append new (v ∷ [])) in
+    ap (λ (m : List ℕ). set m n v)
+    (e ∙ ap (λ (j : ℕ). new ++ drop j row) k ∙ ap (λ (m : List ℕ). new ++ m) (drop-cons row n 0 h))
+    ∙ set-at new (getD row n 0) (drop (suc n) row) v n k
+    ∙ sym (append-assoc new (v ∷ []) (drop (suc n) row))
+    ∙ ap (λ (j : ℕ). (new ++ (v ∷ [])) ++ drop j row) w
+
+-- so a list grows by its next place
+pub put-listed : (f : ℕ → ℕ) (row now : List ℕ) (n : ℕ) → now ≡ over (listed f 0 n) row → n < length row
+    → set now n (f n) ≡ over (listed f 0 (n + 1)) row
+put-listed f row now n e h =
+    put (listed f 0 n) row now (f n) n e (length-listed f 0 n) h ∙ ap (λ (l : List ℕ). over l row) (sym (listed-more f n))

@@ -1,0 +1,27 @@
+-- `measure::extra_day` meets its contract. Assumes nothing.
+use borrow.Author.Needs.{needs}
+use borrow.Author.Tests.{le-leb, lt-leb}
+use Rattle.measure.specs.ExtraDays.{extraDay, extraReply}
+use Rattle.measure.proofs.extra_day.Statement.{statement}
+use Rattle.measure.proofs.extra_day.Tie as tie
+
+returns : tie.Need-returns
+unfolding extraReply
+returns c = simp (le-leb _ _ (c .if1 .taken))
+
+returns-2 : tie.Need-returns-2
+unfolding extraReply extraDay
+returns-2 c = simp (lt-leb _ _ (c .before .if1 .left), lt-leb _ _ (c .if2 .taken))
+
+mul-t3 : tie.Need-mul-t3
+mul-t3 c = search needs
+
+sub-t4 : tie.Need-sub-t4
+sub-t4 c = search needs
+
+returns-3 : tie.Need-returns-3
+unfolding extraReply extraDay
+returns-3 c = simp (lt-leb _ _ (c .before .if1 .left), le-leb _ _ (c .if2 .left))
+
+pub extra-day-spec : {M : Type 1} → statement M
+extra-day-spec = tie.close (tie.spec returns returns-2 mul-t3 sub-t4 returns-3)

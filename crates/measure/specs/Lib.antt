@@ -1,0 +1,8 @@
+pub mod Choice
+pub mod Reply
+pub mod Row
+pub mod Units
+pub mod Epoch
+pub mod Days
+pub mod Hours
+pub mod ExtraDays

@@ -1,0 +1,159 @@
+// Units and constants, the running day count, hours, extra and vanishing days.
+ghost use mathlib.Core.Path.{_≡_};
+ghost use Prim.Native.Nat.{_*_, _/_, _≤_, _<_};
+ghost use Rattle.measure.specs.Units.{day};
+ghost use Rattle.measure.specs.Days.{dayOf, remainderOf, nameOf};
+ghost use Rattle.measure.specs.Hours.{hourReply, hourSaid};
+ghost use Rattle.measure.specs.ExtraDays.{extraReply, vanishingReply, daysSaid};
+
+// All times are in wei.
+pub const MIAO: u64 = 100;
+
+pub const FEN: u64 = 100 * MIAO;
+
+pub const DAY: u64 = 10_000 * FEN;
+
+pub const YEAR: u64 = 36_524_250_000;
+
+pub const HALF_YEAR: u64 = YEAR / 2;
+
+pub const TERM_STEP: u64 = YEAR / 24;
+
+pub const PENTAD_STEP: u64 = TERM_STEP / 3;
+
+pub const EARTH_STEP: u64 = TERM_STEP / 5;
+
+pub const MONTH: u64 = 2_953_059_300;
+
+pub const QUARTER_STEP: u64 = MONTH / 4;
+
+pub const ANOMALISTIC_MONTH: u64 = 2_755_460_000;
+
+pub const ANOMALISTIC_HALF: u64 = ANOMALISTIC_MONTH / 2;
+
+// The epoch.
+pub const SOLSTICE_EPOCH: u64 = 5_506_000_000;
+
+pub const LEAP_EPOCH: u64 = 2_018_500_000;
+
+pub const ANOMALY_EPOCH: u64 = 1_319_040_000;
+
+pub const LAST_YEAR: u64 = 999;
+
+// Refusals, by number.
+pub const NO_YEAR: u64 = 1;
+
+pub const OUTSIDE: u64 = 2;
+
+pub const NO_DAY: u64 = 3;
+
+pub const SHORT_ROW: u64 = 4;
+
+pub const BAD_LINE: u64 = 5;
+
+// A number that was asked for, or a refusal's number.
+pub enum Answer {
+    Number(u64),
+    Refused(u64),
+}
+
+// The day of a running time.
+pub fn day_of(time: u64) -> u64
+    ensures { λ r. ⌜ r ≡ dayOf time ⌝ }
+{
+    time / DAY
+}
+
+// What a running time has over its day.
+pub fn remainder_of(time: u64) -> u64
+    ensures { λ r. ⌜ r ≡ remainderOf time ⌝ }
+{
+    time % DAY
+}
+
+// A day's name among the sixty, with its stem and its branch, each counted from 0.
+pub struct Name {
+    pub name: u64,
+    pub stem: u64,
+    pub branch: u64,
+}
+
+// The name of any running day.
+pub fn name_of(day: u64) -> Name
+    ensures { λ r. ⌜ r ≡ nameOf day ⌝ }
+{
+    Name {
+        name: day % 60,
+        stem: day % 10,
+        branch: day % 12,
+    }
+}
+
+pub enum Hour {
+    At { double_hour: u64, ke: u64 },
+    Refused(u64),
+}
+
+const KE: u64 = 1_200 * FEN;
+
+// The double-hour and the ke of a remainder. A day or more is outside.
+pub fn double_hour(remainder: u64) -> Hour
+    ensures { λ r. ⌜ hourSaid r ≡ hourReply remainder ⌝ }
+{
+    if DAY <= remainder {
+        return Hour::Refused(OUTSIDE);
+    }
+    let twelfths = remainder * 12;
+    Hour::At {
+        double_hour: twelfths / DAY,
+        ke: twelfths % DAY / KE,
+    }
+}
+
+// How many days after its term or its new moon a day falls, if there is one.
+pub enum Days {
+    Add(u64),
+    Nothing,
+    Refused(u64),
+}
+
+const EXTRA_LIMIT: u64 = DAY - TERM_EXCESS;
+
+const TERM_EXCESS: u64 = TERM_STEP - 15 * DAY;
+
+const MONTH_DEFICIT: u64 = 30 * DAY - MONTH;
+
+// The extra day of a term with this remainder. A day or more is outside.
+pub fn extra_day(remainder: u64) -> Days
+    ensures { λ r. ⌜ daysSaid r ≡ extraReply remainder ⌝ }
+{
+    if DAY <= remainder {
+        return Days::Refused(OUTSIDE);
+    }
+    if remainder < EXTRA_LIMIT {
+        return Days::Nothing;
+    }
+    Days::Add((TERM_STEP - 15 * remainder) / TERM_EXCESS)
+}
+
+// The vanishing day of a mean new moon with this remainder. A day or more is outside.
+pub fn vanishing_day(remainder: u64) -> Days
+    ensures { λ r. ⌜ daysSaid r ≡ vanishingReply remainder ⌝ }
+{
+    if DAY <= remainder {
+        return Days::Refused(OUTSIDE);
+    }
+    if MONTH_DEFICIT < remainder {
+        return Days::Nothing;
+    }
+    Days::Add(30 * remainder / MONTH_DEFICIT)
+}
+
+// The whole part of a × t / day, where the product itself may have more than 64 bits. For the crates above: no question of the
+// calendar's, and each caller shows that its numbers are in range.
+pub fn over_day(a: u64, t: u64) -> u64
+    requires { ⌜ (a ≤ 1_800 * day) × (t < day * day) ⌝ }
+    ensures { λ r. ⌜ r ≡ a * t / day ⌝ }
+{
+    a * (t / DAY) + a * (t % DAY) / DAY
+}

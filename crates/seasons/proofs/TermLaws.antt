@@ -1,0 +1,53 @@
+-- Laws of the terms: they rise, none lies before the epoch's solstice, and those of the admitted years are no larger than 10¹⁴ wei.
+-- Assumes nothing.
+use mathlib.Core.Bool.{true, false}
+use mathlib.Core.Logic.{_⊎_, inl, inr}
+use mathlib.Core.Path.{_≡_, ap}
+use Prim.Native.Nat.{ℕ, _+_, _≤_, _<_}
+use native.Mathlib.Omega.{arith}
+use borrow.Author.Tests.{ne-eqb}
+use Rattle.measure.specs.Units.{lastYear}
+use Rattle.measure.specs.Epoch.{Epoch, shoushi}
+use Rattle.seasons.specs.Solstice.{solstice}
+use Rattle.seasons.specs.Terms.{terms, term, earthTerm}
+
+pub term-rises : (e : Epoch) (n i : ℕ) → term e n i < term e n (i + 1)
+unfolding term
+term-rises e n i = omega arith
+
+pub term-zero : (e : Epoch) (n : ℕ) → term e n 0 ≡ solstice e n
+unfolding term
+term-zero e n = omega arith
+
+pub term-least : (e : Epoch) (n i : ℕ) → e .solstice ≤ term e n i
+unfolding term solstice
+term-least e n i = omega arith
+
+pub term-most : (n i : ℕ) → n ≤ lastYear + 1 → i < terms → term shoushi n i ≤ 100_000_000_000_000
+unfolding term solstice
+term-most n i h k = omega arith
+
+-- the four terms before which earth rules, as a program's cases tell them
+abbrev pub OneOfFour : ℕ → Type 0
+OneOfFour i = (i ≡ 2) ⊎ (i ≡ 8) ⊎ (i ≡ 14) ⊎ (i ≡ 20)
+
+pub earth-term : (i : ℕ) → OneOfFour i → earthTerm i ≡ true
+earth-term i (inl e) = ap earthTerm e
+earth-term i (inr (inl e)) = ap earthTerm e
+earth-term i (inr (inr (inl e))) = ap earthTerm e
+earth-term i (inr (inr (inr e))) = ap earthTerm e
+
+pub no-earth-term : (i : ℕ) → ¬ OneOfFour i → earthTerm i ≡ false
+no-earth-term i h =
+    simp (
+      ne-eqb i 2 (λ e. h (inl e)),
+      ne-eqb i 8 (λ e. h (inr (inl e))),
+      ne-eqb i 14 (λ e. h (inr (inr (inl e)))),
+      ne-eqb i 20 (λ e. h (inr (inr (inr e)))),
+    )
+
+pub earth-below : (i : ℕ) → OneOfFour i → i < terms
+earth-below i (inl e) = omega arith
+earth-below i (inr (inl e)) = omega arith
+earth-below i (inr (inr (inl e))) = omega arith
+earth-below i (inr (inr (inr e))) = omega arith

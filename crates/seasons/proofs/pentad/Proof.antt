@@ -1,0 +1,46 @@
+-- `seasons::pentad` meets its contract. Assumes nothing.
+use native.Mathlib.Omega.{arith}
+use borrow.Author.Needs.{needs}
+use borrow.Author.Tests.{lt-ltb, le-ltb}
+use Rattle.seasons.specs.Terms.{pentad, pentadReply}
+use Rattle.seasons.proofs.TermLaws.{term-most}
+use Rattle.seasons.proofs.pentad.Statement.{statement}
+use Rattle.seasons.proofs.pentad.Tie as tie
+
+returns : tie.Need-returns
+unfolding pentadReply
+returns c = simp (lt-ltb _ _ (c .if1 .taken))
+
+returns-2 : tie.Need-returns-2
+unfolding pentadReply
+returns-2 c = simp (le-ltb _ _ (c .before .if1 .left), lt-ltb _ _ (c .if2 .taken))
+
+returns-3 : tie.Need-returns-3
+unfolding pentadReply
+returns-3 c =
+    simp (le-ltb _ _ (c .before .before .if1 .left), le-ltb _ _ (c .before .if2 .left), lt-ltb _ _ (c .if3 .taken))
+
+term-time-requires : tie.Need-term-time-requires
+term-time-requires c κs = search needs
+
+mul-t6 : tie.Need-mul-t6
+mul-t6 c = search needs
+
+add-t7 : tie.Need-add-t7
+add-t7 c =
+    let a = c .before .before .before .before .args in
+    omega (arith, term-most (a .n) (a .i) (omega arith) (omega arith))
+
+returns-4 : tie.Need-returns-4
+unfolding pentadReply pentad
+returns-4 c =
+    simp (
+      le-ltb _ _ (c .before .before .before .if1 .left),
+      le-ltb _ _ (c .before .before .if2 .left),
+      le-ltb _ _ (c .before .if3 .left),
+      c .term-time .ensures,
+    )
+
+pub pentad-spec : {M : Type 1} → statement M
+pentad-spec =
+    tie.close (tie.spec returns returns-2 returns-3 term-time-requires mul-t6 add-t7 returns-4)

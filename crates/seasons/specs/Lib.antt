@@ -1,0 +1,2 @@
+pub mod Solstice
+pub mod Terms

@@ -1,0 +1,100 @@
+//! The facts that hold of all admitted months together, checked on the plain list of all of them.
+
+use crate::calendar::*;
+
+pub const MONTHS: usize = 12_368;
+pub const NEXT_HEAD: (Number, Number) = (12_368, 365_269);
+pub const LENGTHS: [Number; 2] = [29, 30];
+pub const LIST_LENGTHS: [usize; 2] = [12, 13];
+
+/// Returns nothing when a fact holds and its description when it fails.
+fn fact(holds: bool, description: impl FnOnce() -> String) -> Result<(), String> {
+    if holds {
+        Ok(())
+    } else {
+        Err(description())
+    }
+}
+
+/// Returns the list of a year.
+fn year_list(months: &Months, year: Number) -> Vec<Record> {
+    let mut row = [Record::default(); LONGEST_LIST];
+    let written = months
+        .year(year as u64, &mut row)
+        .expect("the year is admitted");
+    row[..written].to_vec()
+}
+
+/// Returns how many months of a year's list hold no middle term.
+fn without_middle_term(year: Number, list: &[Record]) -> usize {
+    let days = middle_term_days(year);
+    list.iter()
+        .filter(|month| !holds_one(month.first_day, month.length, &days))
+        .count()
+}
+
+/// Returns nothing when a year's list is as the paper says and the fact that fails otherwise.
+fn check_list(year: Number, list: &[Record]) -> Result<(), String> {
+    let lean = without_middle_term(year, list);
+    let leaps = list.iter().filter(|month| month.leap).count();
+    let lengths_hold = list.iter().all(|month| LENGTHS.contains(&month.length));
+    fact(LIST_LENGTHS.contains(&list.len()), || {
+        format!("year {year} has {} months", list.len())
+    })?;
+    fact(lengths_hold, || {
+        format!("year {year} has a month of other than 29 or 30 days")
+    })?;
+    fact(lean == list.len() - LIST_LENGTHS[0], || {
+        format!("year {year} has {lean} months without a middle term")
+    })?;
+    fact(leaps == lean, || {
+        format!("year {year} has {leaps} leap months")
+    })
+}
+
+/// Returns nothing when each admitted day stands in the lists exactly once and no other day does,
+/// and the fact that fails otherwise.
+fn check_days(lists: &[Vec<Record>]) -> Result<(), String> {
+    let mut held = vec![0u32; LAST_DAY as usize + 1];
+    for month in lists.iter().flatten() {
+        for day in month.first_day..month.first_day + month.length {
+            fact(day <= LAST_DAY, || format!("day {day} is held"))?;
+            held[day as usize] += 1;
+        }
+    }
+    for (day, times) in held.iter().enumerate() {
+        let wanted = u32::from(day as Number >= FIRST_DAY);
+        fact(*times == wanted, || {
+            format!("day {day} is held {times} times")
+        })?;
+    }
+    Ok(())
+}
+
+/// Returns a line that sums up all facts, or the first that fails.
+pub fn check(months: &Months) -> Result<String, String> {
+    let lists: Vec<Vec<Record>> = (0..=LAST_YEAR)
+        .map(|year| year_list(months, year))
+        .collect();
+    for (year, list) in lists.iter().enumerate() {
+        check_list(year as Number, list)?;
+    }
+    check_days(&lists)?;
+    let count = lists.iter().map(Vec::len).sum::<usize>();
+    fact(count == MONTHS, || format!("there are {count} months"))?;
+    let next_head = months.head_and_first_day(lists.len());
+    fact(next_head == NEXT_HEAD, || {
+        format!("the head after the last year is {next_head:?}")
+    })?;
+    let leap_years = lists
+        .iter()
+        .filter(|list| list.len() == LONGEST_LIST)
+        .count();
+    Ok(format!(
+        "{count} months in {} years, {leap_years} of them with a leap month: days {FIRST_DAY} to \
+         {LAST_DAY} each once, next head lunation {} on day {}",
+        lists.len(),
+        next_head.0,
+        next_head.1
+    ))
+}
