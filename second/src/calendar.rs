@@ -199,14 +199,19 @@ pub fn exact_law(law: Law, whole: Number) -> Number {
     law.first * whole - law.second * whole * whole - law.third * whole * whole * whole
 }
 
-/// Returns the half and the time in the half of the sun at a quarter of a lunation.
-pub fn solar_place(lunation: Number, quarter: Number) -> (SolarHalf, Number) {
-    let time = (SOLAR_START + lunation * MONTH + quarter * QUARTER_STEP).rem_euclid(YEAR);
+/// Returns the half and the time in the half of a time in the sun's year.
+pub fn in_solar_half(time: Number) -> (SolarHalf, Number) {
     if time < HALF_YEAR {
         (SolarHalf::Slow, time)
     } else {
         (SolarHalf::Fast, time - HALF_YEAR)
     }
+}
+
+/// Returns the half and the time in the half of the sun at a quarter of a lunation.
+pub fn solar_place(lunation: Number, quarter: Number) -> (SolarHalf, Number) {
+    let moved = lunation * MONTH + quarter * QUARTER_STEP;
+    in_solar_half((SOLAR_START + moved).rem_euclid(YEAR))
 }
 
 /// Returns the solar inequality without its sign at a time in the fast half.
@@ -241,15 +246,19 @@ pub fn solar_of(lunation: Number, quarter: Number) -> Number {
     solar_inequality(half, time)
 }
 
-/// Returns the half and the time in the half of the moon's anomaly at a quarter of a lunation.
-pub fn anomaly(lunation: Number, quarter: Number) -> (LunarHalf, Number) {
-    let moved = lunation * (MONTH - ANOMALISTIC_MONTH) + quarter * QUARTER_STEP;
-    let time = (ANOMALY_START + moved).rem_euclid(ANOMALISTIC_MONTH);
+/// Returns the half and the time in the half of a time in the anomalistic month.
+pub fn in_lunar_half(time: Number) -> (LunarHalf, Number) {
     if time < ANOMALISTIC_HALF {
         (LunarHalf::Quick, time)
     } else {
         (LunarHalf::Tardy, time - ANOMALISTIC_HALF)
     }
+}
+
+/// Returns the half and the time in the half of the moon's anomaly at a quarter of a lunation.
+pub fn anomaly(lunation: Number, quarter: Number) -> (LunarHalf, Number) {
+    let moved = lunation * (MONTH - ANOMALISTIC_MONTH) + quarter * QUARTER_STEP;
+    in_lunar_half((ANOMALY_START + moved).rem_euclid(ANOMALISTIC_MONTH))
 }
 
 /// Returns the limits of a time in a half, counted in 10⁻⁸ of a limit.

@@ -2,10 +2,9 @@
 
 use crate::calendar::*;
 
-pub const MONTHS: usize = 12_368;
 pub const NEXT_HEAD: (Number, Number) = (12_368, 365_269);
 pub const LENGTHS: [Number; 2] = [29, 30];
-pub const LIST_LENGTHS: [usize; 2] = [12, 13];
+pub const LIST_LENGTHS: [usize; 2] = [NUMBERS.len(), LONGEST_LIST];
 
 /// Returns nothing when a fact holds and its description when it fails.
 fn fact(holds: bool, description: impl FnOnce() -> String) -> Result<(), String> {
@@ -81,7 +80,9 @@ pub fn check(months: &Months) -> Result<String, String> {
     }
     check_days(&lists)?;
     let count = lists.iter().map(Vec::len).sum::<usize>();
-    fact(count == MONTHS, || format!("there are {count} months"))?;
+    fact(count as Number == LAST_LUNATION + 1, || {
+        format!("there are {count} months")
+    })?;
     let next_head = months.head_and_first_day(lists.len());
     fact(next_head == NEXT_HEAD, || {
         format!("the head after the last year is {next_head:?}")

@@ -1,11 +1,12 @@
 //! Reading one line after another from an input of any length, in bounded memory.
 
+use crate::desk::LONGEST_LINE;
 use std::io::{BufRead, Result};
 
 pub const LINE_END: u8 = 0x0A;
 
 /// How much of a line is kept: more than the longest line that any program here answers.
-pub const KEPT: usize = 256;
+pub const KEPT: usize = LONGEST_LINE + 1;
 
 /// Returns whether there was a line, having put its first bytes, at most [`KEPT`], into `line`.
 ///

@@ -91,6 +91,36 @@ fn the_two_solar_laws_do_not_meet() {
     let fast = |time| solar_at(SolarHalf::Fast, time);
     assert_eq!(fast(8_890_922_500), Ok(240_142_279));
     assert_eq!(fast(8_890_922_501), Ok(240_132_544));
+    let slow = |time| solar_at(SolarHalf::Slow, time);
+    let (law_a, law_b) = (
+        law_at(LAW_A, 8_890_922_499, DAY),
+        law_at(LAW_B, 9_371_202_500, DAY),
+    );
+    assert_ne!(law_a, law_b);
+    assert_eq!(slow(9_371_202_500), Ok(-law_b));
+    assert_eq!(slow(9_371_202_501), Ok(-law_a));
+}
+
+#[test]
+fn the_half_itself_begins_the_second_half() {
+    assert_eq!(
+        in_solar_half(18_262_124_999),
+        (SolarHalf::Slow, 18_262_124_999)
+    );
+    assert_eq!(in_solar_half(18_262_125_000), (SolarHalf::Fast, 0));
+    assert_eq!(
+        in_lunar_half(1_377_729_999),
+        (LunarHalf::Quick, 1_377_729_999)
+    );
+    assert_eq!(in_lunar_half(1_377_730_000), (LunarHalf::Tardy, 0));
+}
+
+#[test]
+fn whole_limit_168_counts_as_167() {
+    assert_eq!(limits(1_377_729_999), 16_808_305_987);
+    assert_eq!(whole_limit(1_377_729_999), 167);
+    assert_eq!(whole_limit(1_377_049_180), 167);
+    assert_eq!(whole_limit(0), 0);
 }
 
 #[test]
@@ -191,7 +221,7 @@ fn a_correction_is_rounded_toward_nothing() {
 }
 
 #[test]
-fn a_time_at_the_half_begins_the_second_half() {
+fn every_moon_s_times_lie_within_their_halves() {
     let mut seen = (false, false);
     for lunation in 0..=12_367 {
         for quarter in 0..4 {

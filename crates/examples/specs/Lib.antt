@@ -1,0 +1,3 @@
+pub mod Examples
+pub mod Others
+pub mod Printed

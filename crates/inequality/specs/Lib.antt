@@ -1,0 +1,5 @@
+pub mod Signed
+pub mod Law
+pub mod Solar
+pub mod Lunar
+pub mod Motion

@@ -1,0 +1,62 @@
+-- "The line program": one frame a line, one day in and one month out.
+-- Assumes nothing.
+use mathlib.Core.List.{List, [], _∷_, _++_}
+use Prim.Native.Nat.{ℕ, _+_, _*_}
+use lib.ListN.{length}
+use Rattle.measure.specs.Choice.{if_then_else_, _=?_}
+use Rattle.measure.specs.Reply.{Reply, answer, refused, badLine}
+use Rattle.measure.specs.Epoch.{Epoch}
+use Rattle.months.specs.Month.{Kind, ordinary, leap, MonthOfDay, dayReply}
+use Rattle.lines.specs.Digits.{digitsOf, Digit, worth, noDigit, digitOf}
+
+-- a line ends at this byte, or at the end of the input
+abbrev pub lineEnd : ℕ
+lineEnd = 0x0A
+
+-- one digit more of a number
+abbrev pub withDigit : Reply ℕ → Digit → Reply ℕ
+withDigit (answer n) (worth v) = answer (n * 16 + v)
+withDigit (answer n) noDigit = refused badLine
+withDigit (refused k) d = refused k
+
+-- the number that digits spell, after what was read before them
+unfoldable pub spelled : Reply ℕ → List ℕ → Reply ℕ
+spelled before [] = before
+spelled before (b ∷ bs) = spelled (withDigit before (digitOf b)) bs
+
+-- the day that a line asks for: exactly five digits
+unfoldable pub dayAsked : List ℕ → Reply ℕ
+dayAsked line = if length line =? 5 then spelled (answer 0) line else refused badLine
+
+-- a malformed line is refused before a day outside the calendar
+unfoldable pub lineReply : Epoch → List ℕ → Reply MonthOfDay
+lineReply e line = asked (dayAsked line)
+  where
+    asked : Reply ℕ → Reply MonthOfDay
+    asked (answer d) = dayReply e d
+    asked (refused k) = refused k
+
+-- number and leap digit
+abbrev pub kindDigits : Kind → List ℕ
+kindDigits (ordinary n) = digitsOf 1 n ++ digitsOf 1 0
+kindDigits (leap n) = digitsOf 1 n ++ digitsOf 1 1
+
+-- year 3 digits, number 1, leap 1, first day 5, length 2; a refusal is E and its number
+unfoldable pub lineOf : Reply MonthOfDay → List ℕ
+lineOf (answer m) =
+    digitsOf 3 (m .year) ++ kindDigits (m .kind) ++ digitsOf 5 (m .first) ++ digitsOf 2 (m .length) ++ (lineEnd ∷ [])
+lineOf (refused k) = digitsOf 1 0xE ++ digitsOf 1 k ++ (lineEnd ∷ [])
+
+-- what is written for the last line, where the input ends without a line end: nothing where nothing follows the line end before it
+unfoldable pub lastLine : Epoch → List ℕ → List ℕ
+lastLine e [] = []
+lastLine e (b ∷ bs) = lineOf (lineReply e (b ∷ bs))
+
+-- what is written for an input whose first line began with `begun`
+unfoldable pub outputFrom : Epoch → List ℕ → List ℕ → List ℕ
+outputFrom e begun [] = lastLine e begun
+outputFrom e begun (b ∷ bs) =
+    if b =? lineEnd then lineOf (lineReply e begun) ++ outputFrom e [] bs else outputFrom e (begun ++ (b ∷ [])) bs
+
+unfoldable pub output : Epoch → List ℕ → List ℕ
+output e input = outputFrom e [] input

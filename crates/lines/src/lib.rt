@@ -1,0 +1,1 @@
+// Hexadecimal lines, a day in and a month out: so far their definitions, in specs/.

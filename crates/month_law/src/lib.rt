@@ -1,0 +1,1 @@
+// The month law over any calendar: so far its definitions, in specs/.

@@ -1,0 +1,50 @@
+-- A year's list and a run of years, as month records in a lent row of numbers.
+-- Assumes nothing.
+use mathlib.Core.List.{List, [], _∷_, _++_}
+use Prim.Native.Nat.{ℕ, zero, suc, _+_, _-_, _*_}
+use Rattle.measure.specs.Choice.{_<?_, _=?_}
+use Rattle.measure.specs.Reply.{Reply, answer, noYear, shortRow, refuseIf}
+use Rattle.measure.specs.Units.{lastYear}
+use Rattle.measure.specs.Epoch.{Epoch}
+use Rattle.month_law.specs.Calendar.{Calendar, lengthOf, head, monthsIn, numberAt, leapMark}
+use Rattle.months.specs.Editions.{calendar}
+
+-- how many numbers a record has, and how many records a row needs for each year
+abbrev pub recordWidth : ℕ
+recordWidth = 4
+
+abbrev pub yearRoom : ℕ
+yearRoom = 13
+
+module _ (c : Calendar) where
+  -- first day, length, number, leap mark of the month at place p of year n
+  unfoldable pub recordAt : ℕ → ℕ → List ℕ
+  recordAt n p = c .first (head c n + p) ∷ lengthOf c (head c n + p) ∷ numberAt c n p ∷ leapMark c n p ∷ []
+
+  -- the first k records of year n
+  unfoldable pub recordsOf : ℕ → ℕ → List ℕ
+  recordsOf n zero = []
+  recordsOf n (suc k) = recordsOf n k ++ recordAt n k
+
+  -- the lists of k years from n on, each from the place where the one before it ended
+  unfoldable pub runOf : ℕ → ℕ → List ℕ
+  runOf n zero = []
+  runOf n (suc k) = runOf n k ++ recordsOf (n + k) (monthsIn c (n + k))
+
+  -- how many months they have
+  unfoldable pub monthsInRun : ℕ → ℕ → ℕ
+  monthsInRun n zero = 0
+  monthsInRun n (suc k) = monthsInRun n k + monthsIn c (n + k)
+
+-- the replies where the row has room for so many records
+unfoldable pub listReply : Epoch → ℕ → ℕ → Reply ℕ
+listReply e n room =
+    refuseIf (lastYear <? n) noYear (refuseIf (room <? yearRoom) shortRow (answer (monthsIn (calendar e) n)))
+
+unfoldable pub runReply : Epoch → ℕ → ℕ → ℕ → Reply ℕ
+runReply e n k room =
+    refuseIf (k =? 0) noYear
+    (refuseIf (lastYear <? n) noYear
+    (refuseIf (suc lastYear - n <? k) noYear
+    (refuseIf (room <? yearRoom * k) shortRow
+    (answer (monthsInRun (calendar e) n k)))))

@@ -1,0 +1,2 @@
+pub mod Lunation
+pub mod TrueMoon

@@ -1,0 +1,21 @@
+-- Lunations and their quarters (000:222-234): which are admitted, and the mean moons.
+-- Assumes nothing.
+use Prim.Native.Nat.{ℕ, _+_, _*_}
+use Rattle.measure.specs.Choice.{_<?_}
+use Rattle.measure.specs.Reply.{Reply, answer, outside, refuseIf}
+use Rattle.measure.specs.Units.{month, quarterStep}
+use Rattle.measure.specs.Epoch.{Epoch, meanStart}
+
+abbrev pub lastLunation : ℕ
+lastLunation = 12_367
+
+-- a question about quarter q of lunation l, with its answer
+abbrev pub ofQuarter : {A : Type 0} → ℕ → ℕ → A → Reply A
+ofQuarter l q it = refuseIf (lastLunation <? l) outside (refuseIf (3 <? q) outside (answer it))
+
+-- quarter 0 is the new moon, and 2 the full moon
+unfoldable pub mean : Epoch → ℕ → ℕ → ℕ
+mean e l q = meanStart e + l * month + q * quarterStep
+
+unfoldable pub meanReply : Epoch → ℕ → ℕ → Reply ℕ
+meanReply e l q = ofQuarter l q (mean e l q)

@@ -1,0 +1,1 @@
+// Mean and true moons: so far their definitions, in specs/.

@@ -1,0 +1,21 @@
+-- The viewer's row: month records as bytes, each number of 32 bits with its low byte first.
+-- Assumes nothing.
+use mathlib.Core.List.{List, [], _∷_, _++_}
+use Prim.Native.Nat.{ℕ, _*_, _/_, _%_}
+use lib.ListN.{length}
+use Rattle.months.specs.Records.{recordWidth}
+
+abbrev pub numberBytes : ℕ
+numberBytes = 4
+
+unfoldable pub lowFirst : ℕ → List ℕ
+lowFirst n = n % 256 ∷ n / 256 % 256 ∷ n / 65536 % 256 ∷ n / 16777216 % 256 ∷ []
+
+-- the bytes of a row of numbers
+unfoldable pub bytesOf : List ℕ → List ℕ
+bytesOf [] = []
+bytesOf (n ∷ ns) = lowFirst n ++ bytesOf ns
+
+-- how many whole records a row of bytes has room for
+unfoldable pub roomIn : List ℕ → ℕ
+roomIn row = length row / (recordWidth * numberBytes)

@@ -1,0 +1,1 @@
+// What the viewer calls: so far the record's bytes, in specs/.
