@@ -24,7 +24,8 @@ use Rattle.moons.specs.TrueMoon.{corrected, correction, correctionOf, moved, tr
 use Rattle.month_law.specs.Steps.{seek}
 use Rattle.month_law.specs.Count.{count}
 use Rattle.month_law.specs.Calendar.{nameOf, monthOf, head, yearOf, held, leapAt, numberAt}
-use Rattle.months.specs.Editions.{middleDay, calendar, headReply}
+use Rattle.month_law.specs.Edition.{middleDay, calendar}
+use Rattle.months.specs.Head.{headReply}
 use Rattle.months.specs.Month.{ordinary, leap, kindAt, placed, monthOfDay, dayAt, dayReply, backReply}
 use Rattle.months.specs.Records.{recordAt, recordsOf, runOf, monthsInRun, listReply, runReply}
 use Rattle.lines.specs.Digits.{digitByte, digitsOf, digitOf}

@@ -1,3 +1,4 @@
 pub mod Steps
 pub mod Count
 pub mod Calendar
+pub mod Edition

@@ -1,3 +1,3 @@
-pub mod Editions
+pub mod Head
 pub mod Month
 pub mod Records

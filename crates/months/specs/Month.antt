@@ -6,7 +6,7 @@ use Rattle.measure.specs.Reply.{Reply, answer, noYear, outside, noDay, refuseIf
 use Rattle.measure.specs.Units.{lastYear}
 use Rattle.measure.specs.Epoch.{Epoch}
 use Rattle.month_law.specs.Calendar.{Calendar, lengthOf, monthOf, head, monthsIn, yearOf, leapAt, numberAt}
-use Rattle.months.specs.Editions.{calendar}
+use Rattle.month_law.specs.Edition.{calendar}
 
 -- a month is either ordinary or leap, with its number inside
 pub data Kind : Type 0 where

@@ -7,7 +7,7 @@ use Rattle.measure.specs.Reply.{Reply, answer, noYear, shortRow, refuseIf}
 use Rattle.measure.specs.Units.{lastYear}
 use Rattle.measure.specs.Epoch.{Epoch}
 use Rattle.month_law.specs.Calendar.{Calendar, lengthOf, head, monthsIn, numberAt, leapMark}
-use Rattle.months.specs.Editions.{calendar}
+use Rattle.month_law.specs.Edition.{calendar}
 
 -- how many numbers a record has, and how many records a row needs for each year
 abbrev pub recordWidth : ℕ

@@ -1,22 +1,15 @@
 -- The calendar of an epoch: the days of its true new moons and of its middle terms.
 -- Assumes nothing.
 use Prim.Native.Nat.{ℕ, _*_, _/_, _%_}
-use Rattle.measure.specs.Choice.{_<?_}
-use Rattle.measure.specs.Reply.{Reply, answer, noYear, refuseIf}
-use Rattle.measure.specs.Units.{lastYear}
 use Rattle.measure.specs.Epoch.{Epoch}
 use Rattle.measure.specs.Days.{dayOf}
 use Rattle.seasons.specs.Terms.{term}
 use Rattle.moons.specs.TrueMoon.{firstDay}
-use Rattle.month_law.specs.Calendar.{Calendar, head}
+use Rattle.month_law.specs.Calendar.{Calendar}
 
--- the terms of even i are the middle terms
+-- middle term j, counted on over the years: of the terms of its year those of even i are the middle terms
 unfoldable pub middleDay : Epoch → ℕ → ℕ
 middleDay e j = dayOf (term e (j / 12) (2 * (j % 12)))
 
 abbrev pub calendar : Epoch → Calendar
 calendar e = record { first = firstDay e; mid = middleDay e }
-
--- the lunation that heads year n
-unfoldable pub headReply : Epoch → ℕ → Reply ℕ
-headReply e n = refuseIf (lastYear <? n) noYear (answer (head (calendar e) n))
