@@ -8,6 +8,8 @@ use Rattle.measure.specs.Units.{day, month, quarterStep, anomalisticMonth, anom
 use Rattle.measure.specs.Epoch.{Epoch, anomalyStart}
 use Rattle.inequality.specs.Signed.{Signed, aheadBy, behindBy}
 use Rattle.inequality.specs.Law.{lawMoon, law}
+use Rattle.inequality.specs.declared.LunarHalf.{LunarHalf as LunarHalfAsked}
+use Rattle.inequality.specs.declared.LunarHalf.the-variants.{Quick, Tardy}
 
 -- ji and chi
 pub data LunarHalf : Type 0 where
@@ -52,3 +54,8 @@ anomaly e l q = (anomalyStart e + l * anomalyAdvance + q * quarterStep) % anomal
 -- the direct question: a half and a time in it
 unfoldable pub lunarAtReply : LunarHalf → ℕ → Reply Signed
 lunarAtReply h t = refuseIf (anomalisticHalf ≤? t) outside (answer (lunarAt h t))
+
+-- the half that each case stands for
+abbrev pub lunarHalf : LunarHalfAsked → LunarHalf
+lunarHalf Quick = quick
+lunarHalf Tardy = tardy

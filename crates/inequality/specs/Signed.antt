@@ -2,6 +2,9 @@
 -- Assumes nothing.
 use Prim.Native.Nat.{ℕ, _+_, _-_}
 use lib.IntN.{ℤ, subℕ}
+use Rattle.measure.specs.Reply.{Reply, answer, refused}
+use Rattle.inequality.specs.declared.SignedAnswer.{SignedAnswer}
+use Rattle.inequality.specs.declared.SignedAnswer.the-variants.{Number, Refused}
 
 pub record Signed : Type 0 where
   pub ahead : ℕ
@@ -20,3 +23,12 @@ minus x y = record { ahead = x .ahead + y .behind; behind = x .behind + y .ahead
 -- the integer that it is, for what a program holds
 unfoldable pub integer : Signed → ℤ
 integer x = subℕ (x .ahead) (x .behind)
+
+abbrev pub asInteger : Reply Signed → Reply ℤ
+asInteger (answer x) = answer (integer x)
+asInteger (refused k) = refused k
+
+-- the paper's reply that each case stands for
+abbrev pub signedSaid : SignedAnswer → Reply ℤ
+signedSaid (Number z) = answer z
+signedSaid (Refused k) = refused k

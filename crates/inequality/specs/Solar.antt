@@ -8,6 +8,8 @@ use Rattle.measure.specs.Units.{year, halfYear, month, quarterStep}
 use Rattle.measure.specs.Epoch.{Epoch, solarStart}
 use Rattle.inequality.specs.Signed.{Signed, aheadBy, behindBy}
 use Rattle.inequality.specs.Law.{lawA, lawB, law}
+use Rattle.inequality.specs.declared.SolarHalf.{SolarHalf as SolarHalfAsked}
+use Rattle.inequality.specs.declared.SolarHalf.the-variants.{Fast, Slow}
 
 -- suo and ying
 pub data SolarHalf : Type 0 where
@@ -46,3 +48,8 @@ solarTime e l q = (solarStart e + l * month + q * quarterStep) % year
 -- the direct question: a half and a time in it
 unfoldable pub solarAtReply : SolarHalf → ℕ → Reply Signed
 solarAtReply h t = refuseIf (halfYear ≤? t) outside (answer (solarAt h t))
+
+-- the half that each case stands for
+abbrev pub solarHalf : SolarHalfAsked → SolarHalf
+solarHalf Fast = fast
+solarHalf Slow = slow

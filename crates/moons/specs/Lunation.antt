@@ -1,6 +1,6 @@
 -- Lunations and their quarters (000:222-234): which are admitted, and the mean moons.
 -- Assumes nothing.
-use Prim.Native.Nat.{ℕ, _+_, _*_}
+use Prim.Native.Nat.{ℕ, _+_, _*_, _≤_}
 use Rattle.measure.specs.Choice.{_<?_}
 use Rattle.measure.specs.Reply.{Reply, answer, outside, refuseIf}
 use Rattle.measure.specs.Units.{month, quarterStep}
@@ -12,6 +12,10 @@ lastLunation = 12_367
 -- a question about quarter q of lunation l, with its answer
 abbrev pub ofQuarter : {A : Type 0} → ℕ → ℕ → A → Reply A
 ofQuarter l q it = refuseIf (lastLunation <? l) outside (refuseIf (3 <? q) outside (answer it))
+
+-- what the months count with, inside: two lunations more
+abbrev pub Counted : ℕ → ℕ → Type 0
+Counted l q = (l ≤ lastLunation + 2) × (q ≤ 3)
 
 -- quarter 0 is the new moon, and 2 the full moon
 unfoldable pub mean : Epoch → ℕ → ℕ → ℕ

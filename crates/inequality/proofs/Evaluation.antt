@@ -1,0 +1,30 @@
+-- Where a law is evaluated, each of its steps is bounded, and the law by its first coefficient.
+-- Assumes nothing.
+use mathlib.Core.Path.{_≡_}
+use Prim.Native.Nat.{ℕ, _+_, _*_, _-_, _/_, _≤_}
+use native.Mathlib.Omega.{arith}
+use Rattle.measure.specs.Units.{day}
+use Rattle.measure.proofs.Product.{product}
+use Rattle.inequality.specs.Law.{Law, fine, taken, law, reach, Evaluated}
+
+-- what the third coefficient brings
+abbrev pub growth : Law → ℕ → ℕ
+growth c t = c .third * fine * t / day
+
+module _ (c : Law) (t : ℕ) (h : Evaluated c t) where
+  pub growth-le : growth c t ≤ c .third * fine * reach
+  growth-le = omega (arith, product (c .third * fine) t (c .third * fine) (reach * day) (omega arith) (h .2))
+
+  pub taken-le : taken c t ≤ c .first * fine
+  unfolding taken
+  taken-le =
+      omega (
+        arith,
+        product (c .second * fine + growth c t) t (c .second * fine + c .third * fine * reach) (reach * day)
+            (omega (arith, growth-le)) (h .2),
+      )
+
+  pub law-le : law c t * day ≤ c .first * t
+  unfolding law
+  law-le =
+      omega (arith, product (c .first * fine - taken c t) t (c .first * fine) t (omega arith) (omega arith))

@@ -1,0 +1,7 @@
+pub mod Cases
+pub mod Integers
+pub mod Evaluation
+pub mod Sizes
+pub mod NearerEnd
+pub mod Table
+pub mod MotionRows

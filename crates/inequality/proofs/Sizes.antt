@@ -1,0 +1,50 @@
+-- How large the inequalities can be, by the laws' first coefficients alone: nothing is said of where a law peaks.
+-- Assumes nothing.
+use Prim.Native.Nat.{ℕ, _+_, _*_, _-_, _≤_}
+use native.Mathlib.Omega.{arith}
+use Rattle.measure.specs.Units.{day, halfYear, anomalisticHalf}
+use Rattle.inequality.specs.Law.{lawA, lawB, lawMoon}
+use Rattle.inequality.specs.Signed.{Signed}
+use Rattle.inequality.specs.Solar.{fastLimit, slowLimit, fastAt, slowAt, solar}
+use Rattle.inequality.specs.Lunar.{middle, end, limits, lunarMagnitude, lunar}
+use Rattle.inequality.proofs.Cases.{if-≤, if-<}
+use Rattle.inequality.proofs.Evaluation.{law-le}
+
+abbrev pub solarSize : ℕ
+solarSize = 457_000_000
+
+abbrev pub lunarSize : ℕ
+lunarSize = 934_000_000
+
+pub fast-le : (t : ℕ) → fastAt t ≤ solarSize
+unfolding fastAt
+fast-le t =
+    if-≤ (λ (v : ℕ). v ≤ solarSize) t fastLimit _ _ (λ h. omega (arith, law-le lawA t (omega arith)))
+    (λ h. omega (arith, law-le lawB (halfYear - t) (omega arith)))
+
+pub slow-le : (t : ℕ) → slowAt t ≤ solarSize
+unfolding slowAt
+slow-le t =
+    if-≤ (λ (v : ℕ). v ≤ solarSize) t slowLimit _ _ (λ h. omega (arith, law-le lawB t (omega arith)))
+    (λ h. omega (arith, law-le lawA (halfYear - t) (omega arith)))
+
+pub magnitude-le : (n : ℕ) → lunarMagnitude n ≤ lunarSize
+unfolding lunarMagnitude
+magnitude-le n =
+    if-≤ (λ (v : ℕ). v ≤ lunarSize) n (middle * day) _ _ (λ h. omega (arith, law-le lawMoon n (omega arith)))
+    (λ h. omega (arith, law-le lawMoon (end * day - n) (omega arith)))
+
+-- at any solar time and any anomaly
+abbrev Within : ℕ → Signed → Type 0
+Within n x = x .ahead + x .behind ≤ n
+
+pub solar-size : (s : ℕ) → solar s .ahead + solar s .behind ≤ solarSize
+unfolding solar
+solar-size s =
+    if-< (Within solarSize) s halfYear _ _ (λ h. omega (arith, slow-le s)) (λ h. omega (arith, fast-le (s - halfYear)))
+
+pub lunar-size : (a : ℕ) → lunar a .ahead + lunar a .behind ≤ lunarSize
+unfolding lunar
+lunar-size a =
+    if-< (Within lunarSize) a anomalisticHalf _ _ (λ h. omega (arith, magnitude-le (limits a)))
+    (λ h. omega (arith, magnitude-le (limits (a - anomalisticHalf))))

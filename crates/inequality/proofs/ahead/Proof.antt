@@ -1,0 +1,18 @@
+-- `inequality::ahead` meets its contract. Assumes nothing.
+use mathlib.Core.Path.{_∙_, sym}
+use native.Mathlib.Omega.{arith}
+use mir.Syntax.{w64}
+use mir.Facts.{toZ-pos}
+use borrow.Author.Needs.{needs}
+use Rattle.inequality.proofs.Integers.{integer-ahead}
+use Rattle.inequality.proofs.ahead.Statement.{statement}
+use Rattle.inequality.proofs.ahead.Tie as tie
+
+cast-result : tie.Need-cast-result
+cast-result c = search needs
+
+returns : tie.Need-returns
+returns c = toZ-pos w64 (omega arith) ∙ sym (integer-ahead (c .args .magnitude))
+
+pub ahead-spec : {M : Type 1} → statement M
+ahead-spec = tie.close (tie.spec cast-result returns)

@@ -1,0 +1,21 @@
+-- `inequality::motions::in_row` meets its contract. Assumes nothing.
+use Rattle.measure.specs.Row.{listed}
+use Rattle.inequality.specs.Law.{exact}
+use Rattle.inequality.specs.Motion.{wholeLaw, motionAt, rows, motionInRow}
+use Rattle.inequality.proofs.Table.{at}
+use borrow.Author.Needs.{needs}
+use Rattle.inequality.proofs.motions.in_row.Statement.{statement}
+use Rattle.inequality.proofs.motions.in_row.Tie as tie
+
+mul-result : tie.Need-mul-result
+mul-result c = search needs
+
+array-read-result : tie.Need-array-read-result
+array-read-result c = search needs
+
+returns : tie.Need-returns
+unfolding listed motionInRow motionAt wholeLaw exact
+returns c = at motionInRow rows (c .args .row) (search needs)
+
+pub in-row-spec : {M : Type 1} → statement M
+in-row-spec = tie.close (tie.spec mul-result array-read-result returns)

@@ -1,0 +1,28 @@
+-- `moons::true_moon` meets its contract. Assumes nothing.
+use mathlib.Core.Path.{_∙_, sym, ap}
+use borrow.Author.Needs.{needs}
+use Rattle.measure.specs.Reply.{answer}
+use Rattle.moons.specs.TrueMoon.{trueReply}
+use Rattle.moons.proofs.Admitted.{refused-past, answered, counted}
+use Rattle.moons.proofs.true_moon.Statement.{statement}
+use Rattle.moons.proofs.true_moon.Tie as tie
+
+outside-requires : tie.Need-outside-requires
+outside-requires c κs = search needs
+
+returns : tie.Need-returns
+unfolding trueReply
+returns c =
+    let a = c .before .before .args in sym (refused-past (a .l) (a .q) _ (sym (c .before .outside .ensures) ∙ c .if1 .taken))
+
+true-time-requires : tie.Need-true-time-requires
+true-time-requires c κs = let a = c .before .before .args in counted (a .l) (a .q) (sym (c .before .outside .ensures) ∙ c .if1 .left)
+
+returns-2 : tie.Need-returns-2
+unfolding trueReply
+returns-2 c =
+    let a = c .before .before .before .args in
+    ap answer (c .true-time .ensures) ∙ sym (answered (a .l) (a .q) _ (sym (c .before .before .outside .ensures) ∙ c .before .if1 .left))
+
+pub true-moon-spec : {M : Type 1} → statement M
+true-moon-spec = tie.close (tie.spec outside-requires returns true-time-requires returns-2)
