@@ -1,0 +1,4 @@
+pub mod Signed
+pub mod Gentle
+pub mod SolarStep
+pub mod LunarStep
