@@ -2,3 +2,10 @@ pub mod Signed
 pub mod Gentle
 pub mod SolarStep
 pub mod LunarStep
+pub mod Rising
+pub mod Count
+pub mod MotionStep
+pub mod Quotient
+pub mod Size
+pub mod CorrectionStep
+pub mod MonthLength
