@@ -9,3 +9,5 @@ pub mod Quotient
 pub mod Size
 pub mod CorrectionStep
 pub mod MonthLength
+pub mod Months
+pub mod Terms

@@ -1,4 +1,5 @@
 pub mod Steps
 pub mod Count
 pub mod Calendar
+pub mod Lawful
 pub mod Edition
