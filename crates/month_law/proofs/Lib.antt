@@ -11,3 +11,5 @@ pub mod CorrectionStep
 pub mod MonthLength
 pub mod Months
 pub mod Terms
+pub mod Held
+pub mod Lists

@@ -3,3 +3,4 @@ pub mod Count
 pub mod Calendar
 pub mod Lawful
 pub mod Edition
+pub mod Demand
