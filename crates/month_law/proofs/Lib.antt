@@ -13,3 +13,7 @@ pub mod Months
 pub mod Terms
 pub mod Held
 pub mod Lists
+pub mod Numbers
+pub mod Runs
+pub mod Days
+pub mod Direct

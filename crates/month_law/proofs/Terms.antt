@@ -45,7 +45,7 @@ pub record IsLast (c : Calendar) (l j : ℕ) : Type 0 where
 
 module _ (c : Calendar) (ok : Lawful c) where
   -- the first middle term has come by the end of any month
-  one-come : (l : ℕ) → c .mid 0 < c .first (suc l)
+  pub one-come : (l : ℕ) → c .mid 0 < c .first (suc l)
   one-come l = omega (arith, ok .opened, rises-weakly (c .first) (first-rises c ok) 1 (suc l) (omega arith))
 
   last-found : (l : ℕ) → InStep (c .mid) (lastTerm c l) (c .first (suc l) - 1)
