@@ -17,3 +17,5 @@ pub mod Numbers
 pub mod Runs
 pub mod Days
 pub mod Direct
+pub mod Edition
+pub mod Demand
