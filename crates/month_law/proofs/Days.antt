@@ -8,7 +8,7 @@ use native.Mathlib.Omega.{arith}
 use Rattle.measure.proofs.Choice.{lt-or-ge}
 use Rattle.month_law.specs.Calendar.{Calendar, lengthOf, monthOf, head, yearOf}
 use Rattle.month_law.specs.Lawful.{Lawful}
-use Rattle.month_law.specs.Demand.{Date, Dated}
+use Rattle.month_law.specs.Demand.{JustOne, Date, Dated}
 use Rattle.month_law.proofs.Rising.{Within, rises-weakly, places-of, values-of}
 use Rattle.month_law.proofs.Months.{InMonth, first-rises, day-in-month, month-unique}
 use Rattle.month_law.proofs.Terms.{InList}
@@ -86,3 +86,15 @@ module _ (c : Calendar) (ok : Lawful c) where
   days-run a b d t x h =
       months-run c ok a b (t .year) (monthAt c t) (place-listed c ok (t .year) (t .place) (x .listed))
       (places-of (c .first) (first-rises c ok) d (monthAt c t) (head c a) (head c b) (dated-month d t x) h)
+
+  -- and each of them has just one date in these years
+  pub one-date : (a b d : ℕ) → Within (c .first (head c a)) (c .first (head c b)) d
+      → JustOne (λ (t : Date). Within a b (t .year) × Dated c d t)
+  one-date a b d h =
+      let x : Dated c d (dateOf c d) =
+      dated d (omega (arith, h, rises-weakly (c .first) (first-rises c ok) 0 (head c a) (omega arith))) in
+      record {
+        it = dateOf c d;
+        such = (days-run a b d (dateOf c d) x h, x);
+        only = λ t y. date-unique d t (dateOf c d) (y .1) x;
+      }

@@ -1,16 +1,14 @@
 -- What a program tests: the next head, and a month's number and leap mark by one comparison each, with no search and no list before
 -- it.
 -- Assumes nothing.
-use mathlib.Core.Bool.{Bool, true, false}
 use mathlib.Core.Logic.{⊎-elim}
-use mathlib.Core.Path.{_≡_, ap, sym, _∙_}
+use mathlib.Core.Path.{_≡_, ap, _∙_}
 use Prim.Native.Nat.{ℕ, suc, _+_, _-_, _*_, _≤_, _<_}
 use native.Mathlib.Omega.{arith}
 use borrow.Author.Tests.{lt-ltb, le-ltb, le-leb, lt-leb}
 use Rattle.measure.specs.Choice.{if_then_else_, _≤?_, _<?_}
 use Rattle.measure.proofs.Choice.{lt-or-ge}
 use Rattle.month_law.specs.Calendar.{Calendar, nameOf, head, monthsIn, leapAt, numberAt}
-use Rattle.month_law.specs.Count.{count}
 use Rattle.month_law.specs.Lawful.{Lawful}
 use Rattle.month_law.proofs.Rising.{order-back}
 use Rattle.month_law.proofs.Count.{count-rises}

@@ -1,10 +1,9 @@
 -- The calendar of an epoch is lawful, where lunation 0 is the month of the first solstice and no correction takes a time below 0; so
 -- is that of the Shoushi.
 -- Assumes nothing.
-use mathlib.Core.Path.{_≡_}
-use Prim.Native.Nat.{ℕ, suc, _+_, _*_, _/_, _%_, _≤_, _<_}
+use mathlib.Core.Path.{_≡_, refl}
+use Prim.Native.Nat.{ℕ, suc, _+_, _*_, _≤_, _<_}
 use native.Mathlib.Omega.{arith}
-use lib.Dec.{lit≤, lit<}
 use Rattle.measure.specs.Units.{termStep}
 use Rattle.measure.specs.Epoch.{Epoch, shoushi, meanStart}
 use Rattle.measure.specs.Days.{dayOf}
@@ -16,18 +15,32 @@ use Rattle.seasons.specs.Solstice.{solstice}
 use Rattle.seasons.specs.Terms.{term}
 use Rattle.moons.specs.Lunation.{mean}
 use Rattle.moons.specs.TrueMoon.{corrected, correction, correctionOf, moved, trueMoon, firstDay}
-use Rattle.month_law.specs.Edition.{middleDay, calendar}
+use Rattle.month_law.specs.Steps.{seek}
+use Rattle.month_law.specs.Calendar.{monthOf, head}
 use Rattle.month_law.specs.Lawful.{Lawful}
+use Rattle.month_law.specs.Edition.{middleDay, calendar}
 use Rattle.month_law.proofs.Size.{correctionSize}
 use Rattle.month_law.proofs.MonthLength.{lunation-length}
+
+-- the days that the Shoushi's lists begin and end with, computed
+pub record Figures : Type 0 where
+  pub first-0 : calendar shoushi .first 0 ≡ 35
+  pub first-1 : calendar shoushi .first 1 ≡ 64
+  pub solstice-0 : calendar shoushi .mid 0 ≡ 55
+  pub head-1000 : head (calendar shoushi) 1_000 ≡ 12_368
+  pub first-1000 : calendar shoushi .first 12_368 ≡ 365_269
+
+pub figures : Figures
+unfolding firstDay trueMoon moved mean correctionOf correction corrected solar solarTime fastAt slowAt lunar anomaly lunarMagnitude motion motionInRow rowOf motionAt wholeLaw exact law taken middleDay term solstice head monthOf seek
+figures = record { first-0 = refl; first-1 = refl; solstice-0 = refl; head-1000 = refl; first-1000 = refl }
 
 -- where an edition may open
 pub record Opens (e : Epoch) : Type 0 where
   -- the first mean new moon is later than any correction is large
   pub late : correctionSize ≤ meanStart e
-  -- the month that begins with the true one holds the solstice of year 0
-  pub opening : firstDay e 0 ≤ middleDay e 0
-  pub opened : middleDay e 0 < firstDay e 1
+  -- lunation 0 is the head of year 0: it holds the day of the solstice
+  pub opening : calendar e .first 0 ≤ calendar e .mid 0
+  pub opened : calendar e .mid 0 < calendar e .first 1
 
 -- two term steps from each middle term to the next, also from year to year
 middle-day : (e : Epoch) (j : ℕ) → middleDay e j ≡ dayOf (e .solstice + j * (2 * termStep))
@@ -45,10 +58,8 @@ lawful e o =
       opened = o .opened;
     }
 
--- days 35, 55 and 64
 shoushi-opens : Opens shoushi
-unfolding firstDay trueMoon moved mean correctionOf correction corrected solar solarTime fastAt slowAt lunar anomaly lunarMagnitude motion motionInRow rowOf motionAt wholeLaw exact law taken middleDay term solstice
-shoushi-opens = record { late = lit≤ tt; opening = lit≤ tt; opened = lit< tt }
+shoushi-opens = record { late = omega arith; opening = omega (arith, figures); opened = omega (arith, figures) }
 
 pub shoushi-lawful : Lawful (calendar shoushi)
 shoushi-lawful = lawful shoushi shoushi-opens

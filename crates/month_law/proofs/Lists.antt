@@ -14,9 +14,8 @@ use Rattle.month_law.specs.Count.{count}
 use Rattle.month_law.specs.Calendar.{Calendar, head, monthsIn, held, leapAt}
 use Rattle.month_law.specs.Lawful.{Lawful}
 use Rattle.month_law.specs.Demand.{JustOne, EmptyAt}
-use Rattle.month_law.proofs.Rising.{rises-weakly}
 use Rattle.month_law.proofs.Count.{Passing, count-same, count-past, none-passes, one-passes, some-passes}
-use Rattle.month_law.proofs.Months.{HoldsNone, months-least, head-holds, head-rises}
+use Rattle.month_law.proofs.Months.{months-least, head-holds, head-rises}
 use Rattle.month_law.proofs.Terms.{InList, lacks, termsBefore, lacks-none, has-term, term-seen, none-seen, terms-next, head-before}
 use Rattle.month_law.proofs.Held.{none-held, held-none}
 

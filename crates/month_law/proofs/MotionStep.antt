@@ -7,7 +7,7 @@ use mathlib.Core.Path.{_≡_, refl}
 use Prim.Native.Nat.{ℕ, _+_, _-_, _/_, _%_, _≤_, _<_, min}
 use native.Mathlib.Omega.{arith}
 use borrow.Author.Tests.{leb-true, lt-ltb, le-ltb}
-use Rattle.measure.specs.Choice.{if_then_else_, _≤?_, _<?_}
+use Rattle.measure.specs.Choice.{_≤?_}
 use Rattle.measure.specs.Units.{day, anomalisticMonth, anomalisticHalf}
 use Rattle.measure.proofs.Choice.{lt-or-ge, if-lt}
 use Rattle.inequality.specs.Signed.{aheadBy}

@@ -8,7 +8,6 @@ use native.Mathlib.Nat.{add-zero, add-suc, add-sub-of-le}
 use native.Mathlib.Omega.{arith}
 use Rattle.measure.specs.Row.{listed}
 use Rattle.measure.proofs.Row.{listed-append}
-use Rattle.month_law.specs.Steps.{seek}
 use Rattle.month_law.specs.Count.{count}
 use Rattle.month_law.specs.Calendar.{Calendar, head, monthsIn, yearOf, leapAt}
 use Rattle.month_law.specs.Lawful.{Lawful}

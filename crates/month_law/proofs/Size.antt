@@ -3,7 +3,6 @@
 -- Assumes nothing.
 use Prim.Native.Nat.{ℕ, _+_, _*_, _-_, _<_}
 use native.Mathlib.Omega.{arith}
-use Rattle.measure.specs.Choice.{if_then_else_}
 use Rattle.measure.specs.Units.{day, halfYear, anomalisticHalf}
 use Rattle.measure.proofs.Choice.{if-le, if-lt}
 use Rattle.inequality.specs.Signed.{aheadBy, behindBy, minus}

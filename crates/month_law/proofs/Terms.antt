@@ -4,7 +4,7 @@
 use mathlib.Core.Bool.{Bool, true, false}
 use mathlib.Core.Logic.{⊎-elim}
 use mathlib.Core.Path.{_≡_, ap, subst, sym, _∙_}
-use Prim.Native.Nat.{ℕ, zero, suc, _+_, _-_, _*_, _/_, _≤_, _<_}
+use Prim.Native.Nat.{ℕ, suc, _+_, _-_, _*_, _≤_, _<_}
 use native.Mathlib.Nat.{lt-of-not-le}
 use native.Mathlib.Omega.{arith}
 use borrow.Author.Tests.{lt-ltb, le-ltb, ltb-true, ltb-false}
@@ -15,7 +15,7 @@ use Rattle.month_law.specs.Count.{oneIf}
 use Rattle.month_law.specs.Calendar.{Calendar, head}
 use Rattle.month_law.specs.Lawful.{Lawful}
 use Rattle.month_law.proofs.Rising.{Within, InStep, rises-weakly, begun-by, step-unique, seek-finds}
-use Rattle.month_law.proofs.Months.{Holds, HoldsNone, termMonth, first-rises, mid-rises, term-held, head-holds, head-zero}
+use Rattle.month_law.proofs.Months.{Holds, HoldsNone, termMonth, first-rises, mid-rises, term-held, head-holds}
 
 -- middle term j is of year n
 abbrev pub OfYear : ℕ → ℕ → Type 0
