@@ -5,3 +5,4 @@ pub mod Sizes
 pub mod NearerEnd
 pub mod Table
 pub mod MotionRows
+pub mod LawStep

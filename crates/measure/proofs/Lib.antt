@@ -1,3 +1,4 @@
+pub mod Choice
 pub mod Product
 pub mod Determined
 pub mod Row

@@ -3,7 +3,7 @@
 use mathlib.Core.Path.{_≡_, _∙_, refl, sym, ap}
 use mathlib.Core.List.{List, [], _∷_, _++_, append-assoc}
 use Prim.Native.Nat.{ℕ, zero, suc, _+_, _<_}
-use native.Mathlib.Nat.{add-zero}
+use native.Mathlib.Nat.{zero-add, add-zero, suc-add, add-suc}
 use native.Mathlib.Numerals.{add-one}
 use native.Mathlib.Omega.{arith}
 use lib.ListN.{length, getD, drop, set, length-append}
@@ -45,3 +45,10 @@ pub put-listed : (f : ℕ → ℕ) (row now : List ℕ) (n : ℕ) → now ≡ ov
     → set now n (f n) ≡ over (listed f 0 (n + 1)) row
 put-listed f row now n e h =
     put (listed f 0 n) row now (f n) n e (length-listed f 0 n) h ∙ ap (λ (l : List ℕ). over l row) (sym (listed-more f n))
+
+-- a list and the list that goes on from its end are one list
+pub listed-append : (f : ℕ → ℕ) (i j k : ℕ) → listed f i j ++ listed f (i + j) k ≡ listed f i (j + k)
+unfolding listed
+listed-append f i zero k = rw (add-zero i, zero-add k)
+listed-append f i (suc j) k =
+    rw (add-suc i j, suc-add j k, ← suc-add i j) (ap (λ (l : List ℕ). f i ∷ l) (listed-append f (suc i) j k))

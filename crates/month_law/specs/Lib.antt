@@ -1,4 +1,6 @@
 pub mod Steps
 pub mod Count
 pub mod Calendar
+pub mod Lawful
 pub mod Edition
+pub mod Demand

@@ -1,1 +1,1 @@
-// The month law over any calendar: so far its definitions, in specs/.
+// The month law over any calendar. No code: its definitions stand in specs/ and its laws in proofs/.

@@ -1,0 +1,65 @@
+-- The calendar of an epoch is lawful, where lunation 0 is the month of the first solstice and no correction takes a time below 0; so
+-- is that of the Shoushi.
+-- Assumes nothing.
+use mathlib.Core.Path.{_≡_, refl}
+use Prim.Native.Nat.{ℕ, suc, _+_, _*_, _≤_, _<_}
+use native.Mathlib.Omega.{arith}
+use Rattle.measure.specs.Units.{termStep}
+use Rattle.measure.specs.Epoch.{Epoch, shoushi, meanStart}
+use Rattle.measure.specs.Days.{dayOf}
+use Rattle.inequality.specs.Law.{taken, law, exact}
+use Rattle.inequality.specs.Solar.{fastAt, slowAt, solar, solarTime}
+use Rattle.inequality.specs.Lunar.{lunarMagnitude, lunar, anomaly}
+use Rattle.inequality.specs.Motion.{wholeLaw, motionAt, motionInRow, rowOf, motion}
+use Rattle.seasons.specs.Solstice.{solstice}
+use Rattle.seasons.specs.Terms.{term}
+use Rattle.moons.specs.Lunation.{mean}
+use Rattle.moons.specs.TrueMoon.{corrected, correction, correctionOf, moved, trueMoon, firstDay}
+use Rattle.month_law.specs.Steps.{seek}
+use Rattle.month_law.specs.Calendar.{monthOf, head}
+use Rattle.month_law.specs.Lawful.{Lawful}
+use Rattle.month_law.specs.Edition.{middleDay, calendar}
+use Rattle.month_law.proofs.Size.{correctionSize}
+use Rattle.month_law.proofs.MonthLength.{lunation-length}
+
+-- the days that the Shoushi's lists begin and end with, computed
+pub record Figures : Type 0 where
+  pub first-0 : calendar shoushi .first 0 ≡ 35
+  pub first-1 : calendar shoushi .first 1 ≡ 64
+  pub solstice-0 : calendar shoushi .mid 0 ≡ 55
+  pub head-1000 : head (calendar shoushi) 1_000 ≡ 12_368
+  pub first-1000 : calendar shoushi .first 12_368 ≡ 365_269
+
+pub figures : Figures
+unfolding firstDay trueMoon moved mean correctionOf correction corrected solar solarTime fastAt slowAt lunar anomaly lunarMagnitude motion motionInRow rowOf motionAt wholeLaw exact law taken middleDay term solstice head monthOf seek
+figures = record { first-0 = refl; first-1 = refl; solstice-0 = refl; head-1000 = refl; first-1000 = refl }
+
+-- where an edition may open
+pub record Opens (e : Epoch) : Type 0 where
+  -- the first mean new moon is later than any correction is large
+  pub late : correctionSize ≤ meanStart e
+  -- lunation 0 is the head of year 0: it holds the day of the solstice
+  pub opening : calendar e .first 0 ≤ calendar e .mid 0
+  pub opened : calendar e .mid 0 < calendar e .first 1
+
+-- two term steps from each middle term to the next, also from year to year
+middle-day : (e : Epoch) (j : ℕ) → middleDay e j ≡ dayOf (e .solstice + j * (2 * termStep))
+unfolding middleDay term solstice
+middle-day e j = omega arith
+
+pub lawful : (e : Epoch) → Opens e → Lawful (calendar e)
+lawful e o =
+    record {
+      month-least = λ l. lunation-length e (o .late) l .least;
+      month-most = λ l. lunation-length e (o .late) l .most;
+      terms-apart = λ j. omega (arith, middle-day e j, middle-day e (suc j));
+      year-most = λ n. omega (arith, middle-day e (12 * n), middle-day e (12 * suc n));
+      opening = o .opening;
+      opened = o .opened;
+    }
+
+shoushi-opens : Opens shoushi
+shoushi-opens = record { late = omega arith; opening = omega (arith, figures); opened = omega (arith, figures) }
+
+pub shoushi-lawful : Lawful (calendar shoushi)
+shoushi-lawful = lawful shoushi shoushi-opens

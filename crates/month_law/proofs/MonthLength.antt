@@ -1,0 +1,77 @@
+-- A month has 29 or 30 days, in every edition whose first mean new moon is late enough that no correction takes a time below 0.
+-- Assumes nothing.
+use mathlib.Core.Path.{_≡_}
+use Prim.Native.Nat.{ℕ, suc, _+_, _%_, _≤_, _<_}
+use native.Mathlib.Omega.{arith}
+use Rattle.measure.specs.Units.{year, month, anomalisticMonth}
+use Rattle.measure.specs.ExtraDays.{monthDeficit}
+use Rattle.measure.specs.Epoch.{Epoch, meanStart}
+use Rattle.measure.specs.Days.{dayOf}
+use Rattle.inequality.specs.Signed.{Signed}
+use Rattle.inequality.specs.Solar.{solarTime}
+use Rattle.inequality.specs.Lunar.{anomaly, anomalyAdvance}
+use Rattle.moons.specs.Lunation.{mean}
+use Rattle.moons.specs.TrueMoon.{correction, correctionOf, moved, trueMoon, firstDay}
+use Rattle.month_law.proofs.Signed.{Below, gap}
+use Rattle.month_law.proofs.SolarStep.{mostSolarAdvance}
+use Rattle.month_law.proofs.Size.{correctionSize, correction-small}
+use Rattle.month_law.proofs.CorrectionStep.{correction-step}
+
+-- from one day to another it is 29 days or 30
+pub record MonthLength (first next : ℕ) : Type 0 where
+  pub least : first + 29 ≤ next
+  pub most : next ≤ first + 30
+
+-- two times a month apart, whose corrections differ by no more than a month lacks of 30 days
+by-step : (t : ℕ) (c c' : Signed)
+    → correctionSize ≤ t
+    → Below correctionSize c
+    → Below correctionSize c'
+    → gap c c' ≤ monthDeficit
+    → MonthLength (dayOf (moved t c)) (dayOf (moved (t + month) c'))
+unfolding moved gap
+by-step t c c' h small small' step = omega arith
+
+-- at any solar time and anomaly, for any rule of the year that moves the solar time by no more than a month and a day
+pub month-length : (t s e a : ℕ) → correctionSize ≤ t → s < year → e ≤ mostSolarAdvance → a < anomalisticMonth
+    → MonthLength (dayOf (moved t (correction s a)))
+    (dayOf (moved (t + month) (correction ((s + e) % year) ((a + anomalyAdvance) % anomalisticMonth))))
+month-length t s e a h hs he ha =
+    let s' = (s + e) % year in
+    let a' = (a + anomalyAdvance) % anomalisticMonth in
+    by-step t (correction s a) (correction s' a') h (correction-small s a) (correction-small s' a')
+    (correction-step s e a hs he ha)
+
+-- the quarter of the lunation after l
+module _ (e : Epoch) (l q : ℕ) where
+  mean-next : mean e (suc l) q ≡ mean e l q + month
+  unfolding mean
+  mean-next = omega arith
+
+  solar-next : solarTime e (suc l) q ≡ (solarTime e l q + month) % year
+  unfolding solarTime
+  solar-next = omega arith
+
+  anomaly-next : anomaly e (suc l) q ≡ (anomaly e l q + anomalyAdvance) % anomalisticMonth
+  unfolding anomaly
+  anomaly-next = omega arith
+
+  mean-least : meanStart e ≤ mean e l q
+  unfolding mean
+  mean-least = omega arith
+
+  solar-lt : solarTime e l q < year
+  unfolding solarTime
+  solar-lt = omega arith
+
+  anomaly-lt : anomaly e l q < anomalisticMonth
+  unfolding anomaly
+  anomaly-lt = omega arith
+
+-- so month l has 29 or 30 days
+pub lunation-length : (e : Epoch) → correctionSize ≤ meanStart e → (l : ℕ) → MonthLength (firstDay e l) (firstDay e (suc l))
+unfolding firstDay trueMoon correctionOf
+lunation-length e h l =
+    rw (mean-next e l 0, solar-next e l 0, anomaly-next e l 0)
+    (month-length (mean e l 0) (solarTime e l 0) month (anomaly e l 0) (omega (arith, mean-least e l 0)) (solar-lt e l 0)
+    (omega arith) (anomaly-lt e l 0))

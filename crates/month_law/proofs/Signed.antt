@@ -1,0 +1,31 @@
+-- How far two signed numbers lie apart, and the laws of it.
+-- Assumes nothing.
+use mathlib.Core.Path.{_≡_}
+use Prim.Native.Nat.{ℕ, _+_, _-_, _≤_, _<_}
+use native.Mathlib.Omega.{arith}
+use Rattle.inequality.specs.Signed.{Signed, aheadBy, behindBy, minus}
+
+-- both parts lie below n
+pub record Below (n : ℕ) (x : Signed) : Type 0 where
+  pub ahead-lt : x .ahead < n
+  pub behind-lt : x .behind < n
+
+-- the magnitude of the difference: of the two differences of naturals one is 0
+unfoldable pub gap : Signed → Signed → ℕ
+gap x y = x .ahead + y .behind - (y .ahead + x .behind) + (y .ahead + x .behind - (x .ahead + y .behind))
+
+pub gap-sym : (x y : Signed) → gap x y ≡ gap y x
+unfolding gap
+gap-sym x y = omega arith
+
+pub gap-triangle : (x y z : Signed) → gap x z ≤ gap x y + gap y z
+unfolding gap
+gap-triangle x y z = omega arith
+
+pub gap-minus : (x y x' y' : Signed) → gap (minus x y) (minus x' y') ≤ gap x x' + gap y y'
+unfolding gap
+gap-minus x y x' y' = omega arith
+
+pub gap-behind : (m n : ℕ) → gap (behindBy m) (behindBy n) ≡ gap (aheadBy m) (aheadBy n)
+unfolding gap
+gap-behind m n = omega arith
