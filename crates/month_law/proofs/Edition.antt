@@ -43,7 +43,7 @@ pub record Opens (e : Epoch) : Type 0 where
   pub opened : calendar e .mid 0 < calendar e .first 1
 
 -- two term steps from each middle term to the next, also from year to year
-middle-day : (e : Epoch) (j : ℕ) → middleDay e j ≡ dayOf (e .solstice + j * (2 * termStep))
+pub middle-day : (e : Epoch) (j : ℕ) → middleDay e j ≡ dayOf (e .solstice + j * (2 * termStep))
 unfolding middleDay term solstice
 middle-day e j = omega arith
 

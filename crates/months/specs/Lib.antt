@@ -1,3 +1,4 @@
 pub mod Head
 pub mod Month
+pub mod Span
 pub mod Records

@@ -2,11 +2,16 @@
 -- Assumes nothing.
 use Prim.Native.Nat.{ℕ, _+_, _-_}
 use Rattle.measure.specs.Choice.{if_then_else_, _≤?_, _<?_, _=?_}
-use Rattle.measure.specs.Reply.{Reply, answer, noYear, outside, noDay, refuseIf}
+use Rattle.measure.specs.Reply.{Reply, answer, refused, noYear, outside, noDay, refuseIf}
 use Rattle.measure.specs.Units.{lastYear}
 use Rattle.measure.specs.Epoch.{Epoch}
 use Rattle.month_law.specs.Calendar.{Calendar, lengthOf, monthOf, head, monthsIn, yearOf, leapAt, numberAt}
 use Rattle.month_law.specs.Edition.{calendar}
+use Rattle.months.specs.declared.Kind.{Kind as KindCase}
+use Rattle.months.specs.declared.Kind.the-variants.{Ordinary, Leap}
+use Rattle.months.specs.declared.Month.{Month}
+use Rattle.months.specs.declared.Reply.{Reply as ReplyCase}
+use Rattle.months.specs.declared.Reply.the-variants.{Month as InMonth, Refused}
 
 -- a month is either ordinary or leap, with its number inside
 pub data Kind : Type 0 where
@@ -68,3 +73,23 @@ backReply e n p m =
     (refuseIf (m =? 0) outside
     (refuseIf (lengthOf c (head c n + p) <? m) outside
     (answer (dayAt c n p m)))))
+
+-- the paper's month and reply that each case stands for
+abbrev pub kindSaid : KindCase → Kind
+kindSaid (Ordinary n) = ordinary n
+kindSaid (Leap n) = leap n
+
+abbrev pub monthSaid : Month → MonthOfDay
+monthSaid m =
+    record {
+      kind = kindSaid (m .kind);
+      year = m .year;
+      place = m .place;
+      day = m .day;
+      first = m .first;
+      length = m .length;
+    }
+
+abbrev pub replySaid : ReplyCase → Reply MonthOfDay
+replySaid (InMonth m) = answer (monthSaid m)
+replySaid (Refused k) = refused k

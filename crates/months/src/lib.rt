@@ -1,1 +1,182 @@
-// Heads, a day's month and the way back, a year's list and a run of years: so far their definitions, in specs/.
+// The head of a year, a day's month and the way back, a year's list and a run of years.
+use measure::Answer;
+use measure::DAY;
+use measure::LAST_YEAR;
+use measure::MONTH;
+use measure::NO_DAY;
+use measure::NO_YEAR;
+use measure::OUTSIDE;
+use measure::SHORT_ROW;
+use measure::SOLSTICE_EPOCH;
+use measure::TERM_STEP;
+use moons::MEAN_START;
+ghost use mathlib.Core.Path.{_≡_};
+ghost use mathlib.Core.List.{[], _∷_};
+ghost use Prim.Native.Nat.{suc, _+_, _-_, _*_, _/_, _≤_, _<_};
+ghost use lib.ListN.{length};
+ghost use Rattle.measure.specs.Choice.{if_then_else_, _<?_};
+ghost use Rattle.measure.specs.Reply.{answerSaid};
+ghost use Rattle.measure.specs.Row.{over, rowAfter};
+ghost use Rattle.measure.specs.Units.{lastYear};
+ghost use Rattle.measure.specs.Epoch.{shoushi};
+ghost use Rattle.moons.specs.Lunation.{lastLunation};
+ghost use Rattle.moons.specs.TrueMoon.{firstDay};
+ghost use Rattle.month_law.specs.Calendar.{lengthOf, monthOf, monthsIn, head};
+ghost use Rattle.month_law.specs.Edition.{middleDay, calendar};
+ghost use Rattle.months.specs.Head.{headReply};
+ghost use Rattle.months.specs.Month.{earliest, latest, monthOfDay, dayReply, backReply, kindSaid, monthSaid, replySaid};
+ghost use Rattle.months.specs.Span.{spanOf, kindBy, LastBefore};
+ghost use Rattle.months.specs.Records.{recordWidth, yearRoom, recordAt, recordsOf, runOf, monthsInRun, listReply, runReply};
+
+// A month is ordinary or leap, with its number inside.
+pub enum Kind {
+    Ordinary(u64),
+    Leap(u64),
+}
+
+// The month of a day: places count from 0, days of a month from 1.
+pub struct Month {
+    pub kind: Kind,
+    pub year: u64,
+    pub place: u64,
+    pub day: u64,
+    pub first: u64,
+    pub length: u64,
+}
+
+pub enum Reply {
+    Month(Month),
+    Refused(u64),
+}
+
+const EARLIEST: u64 = 35;
+
+const LATEST: u64 = 365_268;
+
+// The lunation that heads year n. A year past the last is refused with 1.
+pub fn head(n: u64) -> Answer
+    ensures { λ r. ⌜ answerSaid r ≡ headReply shoushi n ⌝ }
+{
+    if LAST_YEAR < n {
+        return Answer::Refused(NO_YEAR);
+    }
+    Answer::Number(head_of(n))
+}
+
+// The month in which a day lies. A day outside the calendar is refused with 3.
+pub fn month_of(d: u64) -> Reply
+    ensures { λ r. ⌜ replySaid r ≡ dayReply shoushi d ⌝ }
+{
+    if d < EARLIEST {
+        return Reply::Refused(NO_DAY);
+    }
+    if LATEST < d {
+        return Reply::Refused(NO_DAY);
+    }
+    Reply::Month(month_in(span_of(d), d))
+}
+
+// A month by its lunation, with its first day and that of the next.
+pub struct Span {
+    pub lunation: u64,
+    pub first: u64,
+    pub next: u64,
+}
+
+// The month of day d. A true new moon is never as far as two days from its mean, so the lunation of the mean new moon before the
+// day is the month's, or the one before or after it.
+fn span_of(d: u64) -> Span
+    requires { ⌜ (earliest ≤ d) × (d ≤ latest + 30) ⌝ }
+    ensures { λ r. ⌜ r ≡ spanOf (calendar shoushi) (monthOf (calendar shoushi) d) ⌝ }
+{
+    let mean = (d * DAY - MEAN_START) / MONTH;
+    let first = first_day(mean);
+    if d < first {
+        return Span {
+            lunation: mean - 1,
+            first: first_day(mean - 1),
+            next: first,
+        };
+    }
+    let next = first_day(mean + 1);
+    if d < next {
+        return Span {
+            lunation: mean,
+            first,
+            next,
+        };
+    }
+    Span {
+        lunation: mean + 1,
+        first: next,
+        next: first_day(mean + 2),
+    }
+}
+
+// The first day of month l.
+fn first_day(l: u64) -> u64
+    requires { ⌜ l ≤ lastLunation + 3 ⌝ }
+    ensures { λ r. ⌜ r ≡ firstDay shoushi l ⌝ }
+{
+    measure::day_of(moons::true_time(l, 0))
+}
+
+const MIDDLE_STEP: u64 = 2 * TERM_STEP;
+
+// The day of middle term j, counted on over the years.
+fn middle_day(j: u64) -> u64
+    requires { ⌜ j ≤ 12 * lastYear + 24 ⌝ }
+    ensures { λ r. ⌜ r ≡ middleDay shoushi j ⌝ }
+{
+    measure::day_of(SOLSTICE_EPOCH + j * MIDDLE_STEP)
+}
+
+// The last middle term before a day.
+fn last_term(next: u64) -> u64
+    requires { ⌜ (middleDay shoushi 0 < next) × (next ≤ latest + 60) ⌝ }
+    ensures { λ r. ⌜ LastBefore (calendar shoushi) next r ⌝ }
+{
+    (next * DAY - 1 - SOLSTICE_EPOCH) / MIDDLE_STEP
+}
+
+fn head_of(n: u64) -> u64
+    requires { ⌜ n ≤ suc lastYear ⌝ }
+    ensures { λ r. ⌜ r ≡ head (calendar shoushi) n ⌝ }
+{
+    let span = span_of(middle_day(12 * n));
+    span.lunation
+}
+
+// A month by the day on which it begins and the last middle term before its end: it has that term's number, and is leap where that
+// term lies before it.
+fn kind_by(first: u64, last: u64) -> Kind
+    requires { ⌜ last ≤ 12 * lastYear + 24 ⌝ }
+    ensures { λ r. ⌜ kindSaid r ≡ kindBy (calendar shoushi) first last ⌝ }
+{
+    let number = (last + 10) % 12 + 1;
+    if middle_day(last) < first {
+        Kind::Leap(number)
+    } else {
+        Kind::Ordinary(number)
+    }
+}
+
+// The month of a span, with a day in it.
+fn month_in(span: Span, d: u64) -> Month
+    requires { ⌜ (earliest ≤ d) × (d ≤ latest) × (span ≡ spanOf (calendar shoushi) (monthOf (calendar shoushi) d)) ⌝ }
+    ensures { λ r. ⌜ monthSaid r ≡ monthOfDay (calendar shoushi) d ⌝ }
+{
+    let first = span.first;
+    let next = span.next;
+    let last = last_term(next);
+    let year = last / 12;
+    let kind = kind_by(first, last);
+    Month {
+        kind,
+        year,
+        place: span.lunation - head_of(year),
+        day: d - first + 1,
+        first,
+        length: next - first,
+    }
+}

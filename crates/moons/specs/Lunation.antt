@@ -13,9 +13,9 @@ lastLunation = 12_367
 abbrev pub ofQuarter : {A : Type 0} → ℕ → ℕ → A → Reply A
 ofQuarter l q it = refuseIf (lastLunation <? l) outside (refuseIf (3 <? q) outside (answer it))
 
--- what the months count with, inside: two lunations more
+-- what the months count with, inside: three lunations more
 abbrev pub Counted : ℕ → ℕ → Type 0
-Counted l q = (l ≤ lastLunation + 2) × (q ≤ 3)
+Counted l q = (l ≤ lastLunation + 3) × (q ≤ 3)
 
 -- quarter 0 is the new moon, and 2 the full moon
 unfoldable pub mean : Epoch → ℕ → ℕ → ℕ

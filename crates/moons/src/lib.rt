@@ -104,7 +104,8 @@ fn outside(l: u64, q: u64) -> bool
     LAST_LUNATION < l || LAST_QUARTER < q
 }
 
-const MEAN_START: u64 = SOLSTICE_EPOCH - LEAP_EPOCH;
+// The mean new moon of lunation 0.
+pub const MEAN_START: u64 = SOLSTICE_EPOCH - LEAP_EPOCH;
 
 fn mean_time(l: u64, q: u64) -> u64
     requires { ⌜ Counted l q ⌝ }
