@@ -47,8 +47,8 @@ module _ (c : Law) (t e : ℕ) where
   pub law-rises : day * law c (t + e) ≤ day * law c t + c .first * e + day
   law-rises = omega (arith, law-whole c t, law-whole c (t + e), whole-rises)
 
--- What a law must satisfy so that in its first n days it falls no faster than that either: what is taken stays below the first
--- coefficient and grows slowly enough, and the dropped rests come to 1 at most
+-- What a law must satisfy so that in its first n days, or limits, it falls no faster than that either: what is taken stays below the
+-- first coefficient and grows slowly enough, and the dropped rests come to 1 at most
 pub record Steady (c : Law) (n : ℕ) : Type 0 where
   pub under : (c .second * fine + c .third * fine * n) * n ≤ c .first * fine
   pub gradual : (3 * (c .third * fine) * n + 2 * (c .second * fine)) * n ≤ 2 * (c .first * fine)

@@ -1,7 +1,7 @@
 -- Laws of choices: of two numbers one is less or is not, a test passes or fails, and what holds in both cases of a choice holds of
 -- it.
 -- Assumes nothing.
-use mathlib.Core.Bool.{Bool, true, false, _&&_}
+use mathlib.Core.Bool.{Bool, true, false, _&&_, false≢true}
 use mathlib.Core.Logic.{_⊎_, inl, inr}
 use mathlib.Core.Path.{_≡_, refl}
 use Prim.Native.Nat.{ℕ, _≤_, _<_}
@@ -28,8 +28,7 @@ left-passes false t e = e
 
 pub right-passes : (s t : Bool) → (s && t) ≡ true → t ≡ true
 right-passes true t e = e
-right-passes false true e = refl
-right-passes false false e = e
+right-passes false t e = absurd (false≢true e)
 
 module _ {A : Type 0} (P : A → Type 0) (a b : A) where
   pub if-cases : (t : Bool) → (t ≡ true → P a) → (t ≡ false → P b) → P (if t then a else b)

@@ -15,15 +15,18 @@ use Rattle.month_law.proofs.Lists.{twelve-or-thirteen, thirteen-leap, l
 use Rattle.month_law.proofs.Days.{length-of, one-date, run-days}
 use Rattle.month_law.proofs.Edition.{figures, shoushi-lawful}
 
-module _ (c : Calendar) (ok : Lawful c) (last earliest latest lunations : ℕ) (opens : c .first (head c 0) ≡ earliest)
-    (next : head c (suc last) ≡ lunations) (closes : c .first lunations ≡ suc latest) where
+module _ (c : Calendar) (ok : Lawful c) (last earliest latest beyond : ℕ) (first-day : c .first 0 ≡ earliest)
+    (next-head : head c (suc last) ≡ beyond) (next-day : c .first beyond ≡ suc latest) where
+  begins : c .first (head c 0) ≡ earliest
+  begins = ap (c .first) (head-zero c ok) ∙ first-day
+
   ends : c .first (head c (suc last)) ≡ suc latest
-  ends = ap (c .first) next ∙ closes
+  ends = ap (c .first) next-head ∙ next-day
 
   dates : (d : ℕ) → earliest ≤ d → d ≤ latest → JustOne (λ (t : Date). (t .year ≤ last) × Dated c d t)
   dates d h k =
       let one : JustOne (λ (t : Date). Within 0 (suc last) (t .year) × Dated c d t) =
-      one-date c ok 0 (suc last) d (record { since = omega arith; until = omega (arith, ends) }) in
+      one-date c ok 0 (suc last) d (record { since = omega (arith, begins); until = omega (arith, ends) }) in
       record {
         it = one .it;
         such = (omega (arith, one .such .0), one .such .1);
@@ -34,25 +37,26 @@ module _ (c : Calendar) (ok : Lawful c) (last earliest latest lunations : ℕ) (
   no-others d t h x =
       let days : Within (c .first (head c 0)) (c .first (head c (suc last))) d =
       run-days c ok 0 (suc last) d t x (record { since = omega arith; until = omega arith }) in
-      omega (arith, days, ends)
+      omega (arith, days, begins, ends)
 
-  pub month-law : MonthLaw c last earliest latest lunations
+  pub month-law : MonthLaw c last earliest latest beyond
   month-law =
       record {
-        opens = opens;
-        next = next;
-        closes = closes;
+        first-head = head-zero c ok;
+        first-day = first-day;
+        next-head = next-head;
+        next-day = next-day;
         dates = dates;
         no-others = no-others;
         lengths = λ n p h k. length-of c ok (head c n + p);
         months = λ n h. twelve-or-thirteen c ok n;
-        leap = λ n h. (thirteen-leap c ok n, λ one. leap-thirteen c ok n (one .it) (one .such));
+        leap = λ n h. thirteen-leap c ok n;
+        only-leap = λ n p h. leap-thirteen c ok n p;
         names = λ n p h k. omega (arith, first-rises c ok (head c n + p));
       }
 
--- the days 35 to 365,268, before the end of which 12,368 months begin
+-- the days 35 to 365,268, and the lunations before 12,368
 pub demand : MonthLaw (calendar shoushi) lastYear 35 365_268 12_368
 demand =
-    let c : Calendar = calendar shoushi in
-    month-law c shoushi-lawful lastYear 35 365_268 12_368 (ap (c .first) (head-zero c shoushi-lawful) ∙ figures .first-0)
-    (figures .head-1000) (figures .first-1000)
+    month-law (calendar shoushi) shoushi-lawful lastYear 35 365_268 12_368 (figures .first-0) (figures .head-1000)
+    (figures .first-1000)

@@ -1,13 +1,11 @@
 -- What a program tests: the next head, and a month's number and leap mark by one comparison each, with no search and no list before
 -- it.
 -- Assumes nothing.
-use mathlib.Core.Logic.{⊎-elim}
 use mathlib.Core.Path.{_≡_, ap, _∙_}
 use Prim.Native.Nat.{ℕ, suc, _+_, _-_, _*_, _≤_, _<_}
 use native.Mathlib.Omega.{arith}
-use borrow.Author.Tests.{lt-ltb, le-ltb, le-leb, lt-leb}
 use Rattle.measure.specs.Choice.{if_then_else_, _≤?_, _<?_}
-use Rattle.measure.proofs.Choice.{lt-or-ge}
+use Rattle.measure.proofs.Choice.{if-le, if-lt}
 use Rattle.month_law.specs.Calendar.{Calendar, nameOf, head, monthsIn, leapAt, numberAt}
 use Rattle.month_law.specs.Lawful.{Lawful}
 use Rattle.month_law.proofs.Rising.{order-back}
@@ -23,45 +21,30 @@ module _ (c : Calendar) where
   rankByTerm n p = if c .mid (12 * n + p) <? c .first (suc (head c n + p)) then p else p - 1
 
 module _ (c : Calendar) (ok : Lawful c) where
-  -- the next head is 13 months on if the thirteenth month from this head begins no later than the next solstice, else 12
+  -- the next head is 13 months on if the month there begins no later than the next solstice, else 12
   pub next-head : (n : ℕ) → head c (suc n) ≡ head c n + (if c .first (head c n + 13) ≤? c .mid (12 * suc n) then 13 else 12)
-  next-head n = ⊎-elim twelve thirteen (lt-or-ge (c .mid (12 * suc n)) (c .first (head c n + 13)))
-    where
-      twelve : c .mid (12 * suc n) < c .first (head c n + 13)
-          → head c (suc n) ≡ head c n + (if c .first (head c n + 13) ≤? c .mid (12 * suc n) then 13 else 12)
-      twelve g =
-          let h : head c (suc n) < head c n + 13 =
-          order-back (c .first) (first-rises c ok) (head c (suc n)) (head c n + 13) (omega (arith, head-holds c ok (suc n))) in
-          rw (lt-leb (c .first (head c n + 13)) (c .mid (12 * suc n)) g) (omega (arith, months-in-least c ok n))
-
-      thirteen : c .first (head c n + 13) ≤ c .mid (12 * suc n)
-          → head c (suc n) ≡ head c n + (if c .first (head c n + 13) ≤? c .mid (12 * suc n) then 13 else 12)
-      thirteen g =
-          rw (le-leb (c .first (head c n + 13)) (c .mid (12 * suc n)) g)
-          (omega (arith, head-last c ok (suc n) (head c n + 13) g, months-in-most c ok n))
+  next-head n =
+      if-le (λ (k : ℕ). head c (suc n) ≡ head c n + k) 13 12 (c .first (head c n + 13)) (c .mid (12 * suc n))
+      (λ g. omega (arith, head-last c ok (suc n) (head c n + 13) g, months-in-most c ok n))
+      (λ g.
+      let short : head c (suc n) < head c n + 13 =
+      order-back (c .first) (first-rises c ok) (head c (suc n)) (head c n + 13) (omega (arith, head-holds c ok (suc n))) in
+      omega (arith, months-in-least c ok n))
 
   pub rank-by-term : (n p : ℕ) → p < monthsIn c n → rankAt c n p ≡ rankByTerm c n p
-  rank-by-term n p h = ⊎-elim come late (lt-or-ge (c .mid (12 * n + p)) (c .first (suc (head c n + p))))
-    where
-      come : c .mid (12 * n + p) < c .first (suc (head c n + p)) → rankAt c n p ≡ rankByTerm c n p
-      come g =
-          rw (lt-ltb (c .mid (12 * n + p)) (c .first (suc (head c n + p))) g)
-          (omega (arith, rank-sum c ok n p h, term-come c ok (12 * n + p) (head c n + p) g))
-
-      not-come : c .first (suc (head c n + p)) ≤ c .mid (12 * n + p) → ¬ (12 * n + p ≤ lastTerm c (head c n + p))
-      not-come g k = omega (arith, come-term c ok (12 * n + p) (head c n + p) k)
-
-      late : c .first (suc (head c n + p)) ≤ c .mid (12 * n + p) → rankAt c n p ≡ rankByTerm c n p
-      late g =
-          rw (le-ltb (c .mid (12 * n + p)) (c .first (suc (head c n + p))) g)
-          (omega (
-            arith,
-            not-come g,
-            rank-sum c ok n p h,
-            count-rises (leapAt c n) (suc p) (monthsIn c n) h,
-            leaps-in c ok n,
-            months-in-most c ok n,
-          ))
+  rank-by-term n p h =
+      if-lt (λ (r : ℕ). rankAt c n p ≡ r) p (p - 1) (c .mid (12 * n + p)) (c .first (suc (head c n + p)))
+      (λ come. omega (arith, rank-sum c ok n p h, term-come c ok (12 * n + p) (head c n + p) come))
+      (λ late.
+      let not-come : ¬ (12 * n + p ≤ lastTerm c (head c n + p)) =
+      λ k. omega (arith, come-term c ok (12 * n + p) (head c n + p) k) in
+      omega (
+        arith,
+        rank-sum c ok n p h,
+        count-rises (leapAt c n) (suc p) (monthsIn c n) h,
+        leaps-in c ok n,
+        months-in-most c ok n,
+      ))
 
   -- the number of the month at place p
   pub number-direct : (n p : ℕ) → p < monthsIn c n → numberAt c n p ≡ nameOf (rankByTerm c n p)

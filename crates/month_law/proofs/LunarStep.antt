@@ -55,7 +55,9 @@ gentle-half =
 abbrev lunarSlack : ℕ
 lunarSlack = halfSlack + 0 + halfSlack
 
-halves-meet : gap (aheadBy (lunarMagnitude (limits anomalisticHalf))) (behindBy (lunarMagnitude (limits (anomalisticHalf - anomalisticHalf)))) ≤ 0
+halves-meet : gap (aheadBy (lunarMagnitude (limits anomalisticHalf)))
+    (behindBy (lunarMagnitude (limits (anomalisticHalf - anomalisticHalf))))
+    ≤ 0
 unfolding gap lunarMagnitude law taken
 halves-meet = lit≤ tt
 

@@ -18,7 +18,7 @@ use Rattle.month_law.specs.Count.{count}
 use Rattle.month_law.proofs.Count.{all-pass}
 use Rattle.month_law.proofs.Signed.{gap}
 
--- ---- the rows
+-- the rows
 row-quick : (a : ℕ) → a < anomalisticHalf → rowOf a ≡ wholeLimit a
 unfolding rowOf
 row-quick a h = rw (lt-ltb a anomalisticHalf h)
@@ -112,7 +112,7 @@ row-step a h =
     (λ (tardy : anomalisticHalf ≤ a). from-tardy a tardy h (lt-or-ge (a + anomalyAdvance) anomalisticMonth))
     (lt-or-ge a anomalisticHalf)
 
--- ---- the motion
+-- the motion
 abbrev pub leastMotion : ℕ
 leastMotion = 98_542_175
 
@@ -145,12 +145,15 @@ pub motion-least : (a : ℕ) → leastMotion ≤ motion a
 unfolding motion atLeast
 motion-least a = leb-true leastMotion (motionInRow (rowOf a)) (all-pass atLeast rows (rowOf a) all-least (row-lt a))
 
+small-at : (d r : ℕ) → count (small d) rows ≡ rows → r < rows → change d r ≤ motionStepBound
+unfolding small
+small-at d r all h = leb-true (change d r) motionStepBound (all-pass (small d) rows r all h)
+
 rows-step : (r r' : ℕ) → r < rows → OnBy r r' → gap (aheadBy (motionInRow r)) (aheadBy (motionInRow r')) ≤ motionStepBound
-unfolding OnBy small change
+unfolding OnBy change
 rows-step r r' h on =
-    ⊎-elim
-    (λ (e : r' ≡ (r + fewer) % rows). rw e (leb-true (change fewer r) motionStepBound (all-pass (small fewer) rows r all-small-fewer h)))
-    (λ (e : r' ≡ (r + more) % rows). rw e (leb-true (change more r) motionStepBound (all-pass (small more) rows r all-small-more h)))
+    ⊎-elim (λ (e : r' ≡ (r + fewer) % rows). rw e (small-at fewer r all-small-fewer h))
+    (λ (e : r' ≡ (r + more) % rows). rw e (small-at more r all-small-more h))
     on
 
 pub motion-step : (a : ℕ) → a < anomalisticMonth
