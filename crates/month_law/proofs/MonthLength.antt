@@ -1,9 +1,9 @@
 -- A month has 29 or 30 days, in every edition whose first mean new moon is late enough that no correction takes a time below 0.
 -- Assumes nothing.
 use mathlib.Core.Path.{_≡_}
-use Prim.Native.Nat.{ℕ, suc, _+_, _%_, _≤_, _<_}
+use Prim.Native.Nat.{ℕ, suc, _+_, _*_, _%_, _≤_, _<_}
 use native.Mathlib.Omega.{arith}
-use Rattle.measure.specs.Units.{year, month, anomalisticMonth}
+use Rattle.measure.specs.Units.{day, year, month, anomalisticMonth}
 use Rattle.measure.specs.ExtraDays.{monthDeficit}
 use Rattle.measure.specs.Epoch.{Epoch, meanStart}
 use Rattle.measure.specs.Days.{dayOf}
@@ -75,3 +75,15 @@ lunation-length e h l =
     rw (mean-next e l 0, solar-next e l 0, anomaly-next e l 0)
     (month-length (mean e l 0) (solarTime e l 0) month (anomaly e l 0) (omega (arith, mean-least e l 0)) (solar-lt e l 0)
     (omega arith) (anomaly-lt e l 0))
+
+-- and each true new moon lies less than a correction's size from its mean
+pub record Near (e : Epoch) (l : ℕ) : Type 0 where
+  pub not-before : mean e l 0 < firstDay e l * day + day + correctionSize
+  pub not-after : firstDay e l * day < mean e l 0 + correctionSize
+
+pub near : (e : Epoch) → correctionSize ≤ meanStart e → (l : ℕ) → Near e l
+unfolding firstDay trueMoon correctionOf moved
+near e h l =
+    let small : Below correctionSize (correction (solarTime e l 0) (anomaly e l 0)) =
+    correction-small (solarTime e l 0) (anomaly e l 0) in
+    record { not-before = omega (arith, mean-least e l 0); not-after = omega (arith, mean-least e l 0) }

@@ -1,21 +1,20 @@
+-- `months::head` meets its contract. Assumes nothing.
 use borrow.Author.Needs.{needs}
+use borrow.Author.Tests.{lt-ltb, le-ltb}
+use Rattle.months.specs.Head.{headReply}
 use Rattle.months.proofs.head.Statement.{statement}
 use Rattle.months.proofs.head.Tie as tie
-use Rattle.months.proofs.head.Reads as reads
-use Rattle.months.proofs.head.Lts as lts
-use Rattle.months.proofs.head_of.Reads as head-of-reads
 
--- src/lib.rt:61:9
 returns : tie.Need-returns
-returns c = ?
+unfolding headReply
+returns c = simp (lt-ltb _ _ (c .if1 .taken))
 
--- src/lib.rt:63:20
 head-of-requires : tie.Need-head-of-requires
 head-of-requires c κs = search needs
 
--- src/lib.rt:57:1
 returns-2 : tie.Need-returns-2
-returns-2 c = ?
+unfolding headReply
+returns-2 c = simp (le-ltb _ _ (c .before .if1 .left), c .head-of .ensures)
 
 pub head-spec : {M : Type 1} → statement M
 head-spec = tie.close (tie.spec returns head-of-requires returns-2)

@@ -1,26 +1,30 @@
+-- `months::head_of` meets its contract. Assumes nothing.
+use mathlib.Core.Path.{_∙_, ap}
+use Prim.Native.Nat.{_*_}
+use native.Mathlib.Omega.{arith}
 use borrow.Author.Needs.{needs}
+use Rattle.measure.specs.Epoch.{shoushi}
+use Rattle.month_law.specs.Calendar.{monthOf, head}
+use Rattle.month_law.specs.Edition.{calendar}
+use Rattle.months.specs.declared.Span.{Span}
+use Rattle.months.proofs.Reach.{solstice-least, solstice-most}
 use Rattle.months.proofs.head_of.Statement.{statement}
 use Rattle.months.proofs.head_of.Tie as tie
-use Rattle.months.proofs.head_of.Reads as reads
-use Rattle.months.proofs.head_of.Lts as lts
-use Rattle.months.proofs.middle_day.Reads as middle-day-reads
-use Rattle.months.proofs.span_of.Reads as span-of-reads
 
--- src/lib.rt:146:35
 mul-middle-day : tie.Need-mul-middle-day
 mul-middle-day c = search needs
 
--- src/lib.rt:146:24
 middle-day-requires : tie.Need-middle-day-requires
 middle-day-requires c κs = search needs
 
--- src/lib.rt:146:9
 span-of-requires : tie.Need-span-of-requires
-span-of-requires c κs = ?
+span-of-requires c κs =
+    let n = c .before .args .n in omega (arith, c .middle-day .ensures, solstice-least (12 * n), solstice-most n (c .before .pre))
 
--- src/lib.rt:142:1
 returns : tie.Need-returns
-returns c = ?
+unfolding head
+returns c =
+    ap (λ (s : Span). s .lunation) (c .span-of .ensures) ∙ ap (monthOf (calendar shoushi)) (c .before .middle-day .ensures)
 
 pub head-of-spec : {M : Type 1} → statement M
 head-of-spec = tie.close (tie.spec mul-middle-day middle-day-requires span-of-requires returns)

@@ -1,24 +1,29 @@
+-- `months::last_term` meets its contract. Assumes nothing.
+use Prim.Native.Nat.{suc, _*_, _-_, _/_}
+use native.Mathlib.Omega.{arith}
 use borrow.Author.Needs.{needs}
+use Rattle.measure.specs.Units.{day, termStep}
+use Rattle.measure.specs.Epoch.{shoushi}
+use Rattle.month_law.proofs.Edition.{middle-day}
 use Rattle.months.proofs.last_term.Statement.{statement}
 use Rattle.months.proofs.last_term.Tie as tie
-use Rattle.months.proofs.last_term.Reads as reads
-use Rattle.months.proofs.last_term.Lts as lts
 
--- src/lib.rt:139:6
 mul-result : tie.Need-mul-result
 mul-result c = search needs
 
--- src/lib.rt:139:6
 sub-result : tie.Need-sub-result
 sub-result c = search needs
 
--- src/lib.rt:139:6
 sub-result-2 : tie.Need-sub-result-2
-sub-result-2 c = ?
+sub-result-2 c = omega (arith, c .pre .0, middle-day shoushi 0)
 
--- src/lib.rt:135:1
 returns : tie.Need-returns
-returns c = ?
+returns c =
+    let j = (c .args .next * day - 1 - shoushi .solstice) / (2 * termStep) in
+    record {
+      come = omega (arith, c .pre .0, middle-day shoushi 0, middle-day shoushi j);
+      not-come = omega (arith, middle-day shoushi (suc j));
+    }
 
 pub last-term-spec : {M : Type 1} → statement M
 last-term-spec = tie.close (tie.spec mul-result sub-result sub-result-2 returns)

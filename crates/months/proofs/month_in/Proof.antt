@@ -1,43 +1,141 @@
+-- `months::month_in` meets its contract: the last middle term before the month's end tells its year and its kind.
+-- Assumes nothing.
+use mathlib.Core.Path.{_≡_, refl, _∙_, ap, subst}
+use Prim.Native.Nat.{ℕ, suc, _+_, _-_, _/_, _≤_, _<_}
+use native.Mathlib.Omega.{arith}
 use borrow.Author.Needs.{needs}
+use Rattle.measure.specs.Epoch.{shoushi}
+use Rattle.month_law.specs.Calendar.{Calendar, monthOf, head}
+use Rattle.month_law.specs.Edition.{calendar}
+use Rattle.month_law.proofs.Terms.{one-come}
+use Rattle.month_law.proofs.Edition.{middle-day, shoushi-lawful}
+use Rattle.months.specs.Month.{Kind, MonthOfDay, earliest, latest, monthOfDay, kindSaid}
+use Rattle.months.specs.Span.{spanOf, kindBy, LastBefore}
+use Rattle.months.specs.declared.Span.{Span}
+use Rattle.months.proofs.Reach.{month-held, next-most}
+use Rattle.months.proofs.ByTerm.{year-told, month-is}
 use Rattle.months.proofs.month_in.Statement.{statement}
 use Rattle.months.proofs.month_in.Tie as tie
-use Rattle.months.proofs.month_in.Reads as reads
-use Rattle.months.proofs.month_in.Lts as lts
-use Rattle.months.proofs.head_of.Reads as head-of-reads
-use Rattle.months.proofs.kind_by.Reads as kind-by-reads
-use Rattle.months.proofs.last_term.Reads as last-term-reads
 
--- src/lib.rt:171:9
+abbrev cal : Calendar
+cal = calendar shoushi
+
+-- the span's numbers
+module _ (span : Span) (d : ℕ) (e : span ≡ spanOf cal (monthOf cal d)) where
+  lunation-is : span .lunation ≡ monthOf cal d
+  lunation-is = ap (λ (s : Span). s .lunation) e
+
+  first-is : span .first ≡ cal .first (monthOf cal d)
+  first-is = ap (λ (s : Span). s .first) e
+
+  next-is : span .next ≡ cal .first (suc (monthOf cal d))
+  next-is = ap (λ (s : Span). s .next) e
+
+-- a middle term before the end of the last month is of an admitted year
+term-small : (next j : ℕ) → next ≤ suc latest → LastBefore cal next j → j < 12_000
+term-small next j h last = omega (arith, last .come, middle-day shoushi j)
+
+-- what is known of a span whose day is admitted, and of the last middle term before its end
+module _ (span : Span) (d : ℕ) (since : earliest ≤ d) (until : d ≤ latest) (e : span ≡ spanOf cal (monthOf cal d)) where
+  next-small : span .next ≤ suc latest
+  next-small = omega (arith, next-is span d e, next-most d since until)
+
+  begun : (span .first ≤ d) × (span .first ≤ span .next)
+  begun = omega (arith, first-is span d e, next-is span d e, month-held d since until)
+
+  module _ (j : ℕ) (last : LastBefore cal (span .next) j) where
+    before-next : LastBefore cal (cal .first (suc (monthOf cal d))) j
+    before-next = subst (λ (n : ℕ). LastBefore cal n j) (next-is span d e) last
+
+    head-before : (h : ℕ) → h ≡ head cal (j / 12) → h ≤ span .lunation
+    head-before h eh =
+        omega (arith, lunation-is span d e, year-told cal shoushi-lawful (monthOf cal d) j before-next)
+
+    said : (kind : Kind) (h : ℕ) → kind ≡ kindBy cal (span .first) j → h ≡ head cal (j / 12)
+        → _≡_ {A = MonthOfDay}
+        (record {
+          kind = kind;
+          year = j / 12;
+          place = span .lunation - h;
+          day = d - span .first + 1;
+          first = span .first;
+          length = span .next - span .first;
+        })
+        (monthOfDay cal d)
+    said kind h ek eh =
+        let kind' : kind ≡ kindBy cal (cal .first (monthOf cal d)) j = ek ∙ ap (λ (f : ℕ). kindBy cal f j) (first-is span d e) in
+        (λ i.
+        record {
+          kind = kind' i;
+          year = j / 12;
+          place = lunation-is span d e i - eh i;
+          day = d - first-is span d e i + 1;
+          first = first-is span d e i;
+          length = next-is span d e i - first-is span d e i;
+        })
+        ∙ month-is cal shoushi-lawful d (monthOf cal d) j refl before-next
+
 last-term-requires : tie.Need-last-term-requires
-last-term-requires c κs = ?
+last-term-requires c κs =
+    let p = c .pre in
+    let d = c .args .d in
+    omega (
+      arith,
+      next-is (c .args .span) d (p .2),
+      one-come cal shoushi-lawful (monthOf cal d),
+      next-small (c .args .span) d (p .0) (p .1) (p .2),
+    )
 
--- src/lib.rt:173:9
 kind-by-requires : tie.Need-kind-by-requires
-kind-by-requires c κs = ?
+kind-by-requires c κs =
+    let a = c .before .args in
+    let p = c .before .pre in
+    omega (
+      arith,
+      term-small (a .span .next) (c .last-term .result) (next-small (a .span) (a .d) (p .0) (p .1) (p .2)) (c .last-term .ensures),
+    )
 
--- src/lib.rt:177:32
 head-of-requires : tie.Need-head-of-requires
-head-of-requires c κs = ?
+head-of-requires c κs =
+    let at = c .before in
+    let a = at .before .args in
+    let p = at .before .pre in
+    omega (
+      arith,
+      term-small (a .span .next) (at .last-term .result) (next-small (a .span) (a .d) (p .0) (p .1) (p .2)) (at .last-term .ensures),
+    )
 
--- src/lib.rt:177:16
 sub-t9 : tie.Need-sub-t9
-sub-t9 c = ?
+sub-t9 c =
+    let at = c .before .before .before in
+    let a = at .before .args in
+    let p = at .before .pre in
+    head-before (a .span) (a .d) (p .0) (p .1) (p .2) (at .last-term .result) (at .last-term .ensures) (c .before .head-of .result)
+    (c .before .head-of .ensures)
 
--- src/lib.rt:178:14
 sub-t10 : tie.Need-sub-t10
-sub-t10 c = ?
+sub-t10 c =
+    let start = c .before .before .before .before in
+    let p = start .pre in
+    begun (start .args .span) (start .args .d) (p .0) (p .1) (p .2) .0
 
--- src/lib.rt:178:14
 add-t11 : tie.Need-add-t11
 add-t11 c = search needs
 
--- src/lib.rt:180:17
 sub-t12 : tie.Need-sub-t12
-sub-t12 c = ?
+sub-t12 c =
+    let start = c .before .before .before .before in
+    let p = start .pre in
+    begun (start .args .span) (start .args .d) (p .0) (p .1) (p .2) .1
 
--- src/lib.rt:165:1
 returns : tie.Need-returns
-returns c = ?
+returns c =
+    let at = c .before .before .before in
+    let a = at .before .args in
+    let p = at .before .pre in
+    said (a .span) (a .d) (p .0) (p .1) (p .2) (at .last-term .result) (at .last-term .ensures)
+    (kindSaid (c .before .before .kind-by .result)) (c .before .head-of .result) (c .before .before .kind-by .ensures)
+    (c .before .head-of .ensures)
 
 pub month-in-spec : {M : Type 1} → statement M
 month-in-spec =

@@ -1,30 +1,31 @@
+-- `months::month_of` meets its contract. Assumes nothing.
+use mathlib.Core.Path.{ap}
 use borrow.Author.Needs.{needs}
+use borrow.Author.Tests.{lt-ltb, le-ltb}
+use Rattle.measure.specs.Reply.{answer}
+use Rattle.months.specs.Month.{dayReply}
 use Rattle.months.proofs.month_of.Statement.{statement}
 use Rattle.months.proofs.month_of.Tie as tie
-use Rattle.months.proofs.month_of.Reads as reads
-use Rattle.months.proofs.month_of.Lts as lts
-use Rattle.months.proofs.month_in.Reads as month-in-reads
-use Rattle.months.proofs.span_of.Reads as span-of-reads
 
--- src/lib.rt:71:9
 returns : tie.Need-returns
-returns c = ?
+unfolding dayReply
+returns c = simp (lt-ltb _ _ (c .if1 .taken))
 
--- src/lib.rt:74:9
 returns-2 : tie.Need-returns-2
-returns-2 c = ?
+unfolding dayReply
+returns-2 c = simp (le-ltb _ _ (c .before .if1 .left), lt-ltb _ _ (c .if2 .taken))
 
--- src/lib.rt:76:27
 span-of-requires : tie.Need-span-of-requires
 span-of-requires c κs = search needs
 
--- src/lib.rt:76:18
 month-in-requires : tie.Need-month-in-requires
 month-in-requires c κs = search needs
 
--- src/lib.rt:67:1
 returns-3 : tie.Need-returns-3
-returns-3 c = ?
+unfolding dayReply
+returns-3 c =
+    let at = c .before .before in
+    simp (le-ltb _ _ (at .before .if1 .left), le-ltb _ _ (at .if2 .left)) (ap answer (c .month-in .ensures))
 
 pub month-of-spec : {M : Type 1} → statement M
 month-of-spec = tie.close (tie.spec returns returns-2 span-of-requires month-in-requires returns-3)

@@ -1,0 +1,59 @@
+-- A month's year, number and leap mark by the last middle term before its end.
+-- Assumes nothing.
+use mathlib.Core.Logic.{⊎-elim}
+use mathlib.Core.Path.{_≡_, refl, ap, sym, _∙_}
+use Prim.Native.Nat.{ℕ, suc, _+_, _-_, _*_, _/_, _≤_, _<_}
+use native.Mathlib.Omega.{arith}
+use Rattle.measure.specs.Choice.{if_then_else_, _<?_}
+use Rattle.month_law.specs.Calendar.{Calendar, lengthOf, monthOf, head, monthsIn, yearOf}
+use Rattle.month_law.specs.Lawful.{Lawful}
+use Rattle.month_law.proofs.Terms.{lastTerm, lacks, last-unique, InList, year-to-list}
+use Rattle.month_law.proofs.Lists.{leap-lacks, listed-place}
+use Rattle.month_law.proofs.Numbers.{number-by-term}
+use Rattle.month_law.proofs.Runs.{year-of}
+use Rattle.months.specs.Month.{Kind, MonthOfDay, kindAt, placed, monthOfDay}
+use Rattle.months.specs.Span.{LastBefore, kindBy}
+
+module _ (c : Calendar) (ok : Lawful c) where
+  -- the last middle term before the next month
+  pub last-is : (l j : ℕ) → LastBefore c (c .first (suc l)) j → j ≡ lastTerm c l
+  last-is l j h = last-unique c ok l j (record { come = h .come; next = h .not-come })
+
+  -- tells the year in whose list the month stands
+  pub year-told : (l j : ℕ) → LastBefore c (c .first (suc l)) j → InList c (j / 12) l
+  year-told l j h = year-to-list c ok (j / 12) l (record { since = omega (arith, last-is l j h); until = omega (arith, last-is l j h) })
+
+  pub year-is : (l j : ℕ) → LastBefore c (c .first (suc l)) j → j / 12 ≡ yearOf c l
+  year-is l j h = year-of c ok l (j / 12) (year-told l j h)
+
+  -- and its kind
+  pub kind-is : (n p j : ℕ) → p < monthsIn c n → LastBefore c (c .first (suc (head c n + p))) j
+      → kindBy c (c .first (head c n + p)) j ≡ kindAt c n p
+  unfolding kindAt lacks
+  kind-is n p j h last =
+      let l = head c n + p in
+      let e : j ≡ lastTerm c l = last-is l j last in
+      rw (leap-lacks c ok n p h, number-by-term c ok n p h, ← e)
+
+  -- so the month of a day is told by its span and that term
+  pub month-is : (d l j : ℕ) → l ≡ monthOf c d → LastBefore c (c .first (suc l)) j
+      → _≡_ {A = MonthOfDay}
+      (record {
+        kind = kindBy c (c .first l) j;
+        year = j / 12;
+        place = l - head c (j / 12);
+        day = d - c .first l + 1;
+        first = c .first l;
+        length = lengthOf c l;
+      })
+      (monthOfDay c d)
+  unfolding monthOfDay placed
+  month-is d l j e last =
+      let n = j / 12 in
+      let p = l - head c n in
+      let at : head c n + p ≡ l = listed-place c ok n l (year-told l j last) in
+      let kind : kindBy c (c .first l) j ≡ kindAt c n p =
+      ap (λ (m : ℕ). kindBy c (c .first m) j) (sym at)
+      ∙ kind-is n p j (omega (arith, year-told l j last)) (rw at last) in
+      rw (← e, ← year-is l j last)
+      (λ i. record { kind = kind i; year = n; place = p; day = d - c .first l + 1; first = c .first l; length = lengthOf c l })

@@ -1,0 +1,87 @@
+-- Where the Shoushi's months lie: the month of a day is that of the mean new moon before it, or the one before or after; and the lists of
+-- the admitted years reach from lunation 0 to 12,367.
+-- Assumes nothing.
+use mathlib.Core.Path.{_≡_, ap, _∙_}
+use Prim.Native.Nat.{ℕ, zero, suc, _+_, _-_, _*_, _/_, _≤_, _<_}
+use native.Mathlib.Omega.{arith}
+use Rattle.measure.specs.Units.{day, month, lastYear, termStep}
+use Rattle.measure.specs.Epoch.{shoushi, meanStart}
+use Rattle.moons.specs.Lunation.{lastLunation, mean}
+use Rattle.month_law.specs.Calendar.{Calendar, monthOf, head, monthsIn}
+use Rattle.month_law.specs.Edition.{middleDay, calendar}
+use Rattle.month_law.proofs.Size.{correctionSize}
+use Rattle.month_law.proofs.MonthLength.{Near, near}
+use Rattle.month_law.proofs.Rising.{rises-weakly, order-back}
+use Rattle.month_law.proofs.Months.{InMonth, first-rises, day-in-month, month-of, head-rises}
+use Rattle.month_law.proofs.Lists.{months-in-least}
+use Rattle.month_law.proofs.Edition.{figures, middle-day, shoushi-lawful}
+use Rattle.months.specs.Month.{earliest, latest}
+use Rattle.months.specs.Span.{spanOf}
+use Rattle.months.specs.declared.Span.{Span}
+
+abbrev c : Calendar
+c = calendar shoushi
+
+-- no month begins before the first
+pub first-least : (l : ℕ) → earliest ≤ c .first l
+first-least l = omega (arith, figures, rises-weakly (c .first) (first-rises c shoushi-lawful) 0 l (omega arith))
+
+-- the months of the calendar's days
+module _ (d : ℕ) (since : earliest ≤ d) (until : d ≤ latest) where
+  pub month-held : InMonth c (monthOf c d) d
+  month-held = day-in-month c shoushi-lawful d (omega (arith, figures))
+
+  pub month-most : monthOf c d ≤ lastLunation
+  month-most =
+      omega (
+        arith,
+        order-back (c .first) (first-rises c shoushi-lawful) (monthOf c d) (suc lastLunation) (omega (arith, figures, month-held)),
+      )
+
+  pub next-most : c .first (suc (monthOf c d)) ≤ suc latest
+  next-most =
+      omega (
+        arith,
+        figures,
+        month-most,
+        rises-weakly (c .first) (first-rises c shoushi-lawful) (suc (monthOf c d)) (suc lastLunation) (omega (arith, month-most)),
+      )
+
+-- the heads
+pub head-most : (n : ℕ) → n ≤ suc lastYear → head c n ≤ suc lastLunation
+head-most n h = omega (arith, figures, rises-weakly (head c) (head-rises c shoushi-lawful) n (suc lastYear) h)
+
+pub list-most : (n : ℕ) → n ≤ lastYear → head c n + monthsIn c n ≤ suc lastLunation
+list-most n h = omega (arith, head-most (suc n) (omega arith), head-rises c shoushi-lawful n)
+
+-- the solstice of a year, at the latest that of the year after the last
+pub solstice-most : (n : ℕ) → n ≤ suc lastYear → middleDay shoushi (12 * n) ≤ latest + 30
+solstice-most n h = omega (arith, middle-day shoushi (12 * n))
+
+pub solstice-least : (j : ℕ) → earliest ≤ middleDay shoushi j
+solstice-least j = omega (arith, middle-day shoushi j)
+
+-- l is the last mean new moon not after the beginning of day d
+pub record MeanBefore (d l : ℕ) : Type 0 where
+  pub come : meanStart shoushi + l * month ≤ d * day
+  pub next : d * day < meanStart shoushi + l * month + month
+
+late : correctionSize ≤ meanStart shoushi
+late = omega arith
+
+mean-is : (l : ℕ) → mean shoushi l 0 ≡ meanStart shoushi + l * month
+unfolding mean
+mean-is l = omega arith
+
+module _ (d l : ℕ) (at : MeanBefore d l) where
+  pub begun-before : (k : ℕ) → suc k ≡ l → c .first k ≤ d
+  begun-before k e = omega (arith, near shoushi late k, mean-is k)
+
+  pub over-after : d < c .first (l + 2)
+  over-after = omega (arith, near shoushi late (l + 2), mean-is (l + 2))
+
+-- a month that holds the day is the day's
+pub span-is : (d l first next : ℕ) → InMonth c l d → first ≡ c .first l → next ≡ c .first (suc l)
+    → _≡_ {A = Span} (record { lunation = l; first = first; next = next }) (spanOf c (monthOf c d))
+span-is d l first next h f n =
+    (λ i. record { lunation = l; first = f i; next = n i }) ∙ ap (spanOf c) (month-of c shoushi-lawful d l h)
