@@ -26,6 +26,10 @@ c = calendar shoushi
 pub first-least : (l : ℕ) → earliest ≤ c .first l
 first-least l = omega (arith, figures, rises-weakly (c .first) (first-rises c shoushi-lawful) 0 l (omega arith))
 
+-- nor one that is counted after the last day but one
+pub first-most : (l : ℕ) → l ≤ suc lastLunation → c .first l ≤ suc latest
+first-most l h = omega (arith, figures, rises-weakly (c .first) (first-rises c shoushi-lawful) l (suc lastLunation) h)
+
 -- the months of the calendar's days
 module _ (d : ℕ) (since : earliest ≤ d) (until : d ≤ latest) where
   pub month-held : InMonth c (monthOf c d) d
@@ -39,13 +43,7 @@ module _ (d : ℕ) (since : earliest ≤ d) (until : d ≤ latest) where
       )
 
   pub next-most : c .first (suc (monthOf c d)) ≤ suc latest
-  next-most =
-      omega (
-        arith,
-        figures,
-        month-most,
-        rises-weakly (c .first) (first-rises c shoushi-lawful) (suc (monthOf c d)) (suc lastLunation) (omega (arith, month-most)),
-      )
+  next-most = first-most (suc (monthOf c d)) (omega (arith, month-most))
 
 -- the heads
 pub head-most : (n : ℕ) → n ≤ suc lastYear → head c n ≤ suc lastLunation
@@ -53,6 +51,9 @@ head-most n h = omega (arith, figures, rises-weakly (head c) (head-rises c shous
 
 pub list-most : (n : ℕ) → n ≤ lastYear → head c n + monthsIn c n ≤ suc lastLunation
 list-most n h = omega (arith, head-most (suc n) (omega arith), head-rises c shoushi-lawful n)
+
+pub place-most : (n p : ℕ) → n ≤ lastYear → p < 13 → head c n + p ≤ suc lastLunation
+place-most n p h k = omega (arith, list-most n h, months-in-least c shoushi-lawful n)
 
 -- the solstice of a year, at the latest that of the year after the last
 pub solstice-most : (n : ℕ) → n ≤ suc lastYear → middleDay shoushi (12 * n) ≤ latest + 30

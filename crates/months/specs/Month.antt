@@ -1,5 +1,6 @@
 -- "A reply about a day", and the way back.
 -- Assumes nothing.
+use mathlib.Core.Bool.{Bool, false, _&&_}
 use Prim.Native.Nat.{ℕ, _+_, _-_}
 use Rattle.measure.specs.Choice.{if_then_else_, _≤?_, _<?_, _=?_}
 use Rattle.measure.specs.Reply.{Reply, answer, refused, noYear, outside, noDay, refuseIf}
@@ -73,6 +74,11 @@ backReply e n p m =
     (refuseIf (m =? 0) outside
     (refuseIf (lengthOf c (head c n + p) <? m) outside
     (answer (dayAt c n p m)))))
+
+-- whether a reply about a day gives it a year, a place and a day of the month
+abbrev pub hasDate : Reply MonthOfDay → ℕ → ℕ → ℕ → Bool
+hasDate (answer x) n p m = (x .year =? n) && (x .place =? p) && (x .day =? m)
+hasDate (refused k) n p m = false
 
 -- the paper's month and reply that each case stands for
 abbrev pub kindSaid : KindCase → Kind
