@@ -3,5 +3,7 @@ pub mod Integers
 pub mod Evaluation
 pub mod NearerEnd
 pub mod Sizes
+pub mod Cubic
 pub mod Table
 pub mod MotionRows
+pub mod Unique

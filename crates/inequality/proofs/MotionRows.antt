@@ -9,7 +9,7 @@ use native.Mathlib.Nat.{le-of-suc-le-suc, not-suc-le-zero, eq-or-lt-of-le, add-s
 use native.Mathlib.Omega.{arith}
 use lib.Dec.{T, leb→le}
 use borrow.Author.Tests.{lt-ltb, le-ltb}
-use Rattle.measure.specs.Choice.{if_then_else_, _≤?_, _<?_}
+use Rattle.measure.specs.Choice.{_≤?_}
 use Rattle.measure.specs.Units.{day, anomalisticHalf}
 use Rattle.inequality.specs.Law.{exact}
 use Rattle.inequality.specs.Lunar.{quick, tardy, end, limits, anomalyAdvance}

@@ -5,8 +5,9 @@ use Prim.Native.Nat.{ℕ, _*_, _-_, _≤_}
 use native.Mathlib.Omega.{arith}
 use Rattle.measure.specs.Choice.{_≤?_}
 use Rattle.measure.specs.Units.{day}
-use Rattle.inequality.specs.Law.{lawMoon, law, exact, reach}
-use Rattle.inequality.specs.Lunar.{middle, end, lunarMagnitude, fromNearerEnd}
+use Rattle.inequality.specs.Law.{lawMoon, law, exact}
+use Rattle.inequality.specs.Evaluation.{reach, fromNearerEnd}
+use Rattle.inequality.specs.Lunar.{middle, end, lunarMagnitude}
 use Rattle.inequality.specs.Motion.{wholeLaw}
 use Rattle.inequality.proofs.Cases.{if-≤, if-through}
 

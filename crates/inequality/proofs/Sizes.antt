@@ -5,9 +5,10 @@ use native.Mathlib.Omega.{arith}
 use lib.Dec.{lit≤}
 use Rattle.measure.specs.Units.{day, halfYear, anomalisticHalf}
 use Rattle.inequality.specs.Law.{lawA, lawB, lawMoon}
+use Rattle.inequality.specs.Evaluation.{fromNearerEnd}
 use Rattle.inequality.specs.Signed.{Signed}
 use Rattle.inequality.specs.Solar.{fastLimit, slowLimit, fastAt, slowAt, solar}
-use Rattle.inequality.specs.Lunar.{middle, end, limits, lunarMagnitude, fromNearerEnd, lunar}
+use Rattle.inequality.specs.Lunar.{middle, end, limits, lunarMagnitude, lunar}
 use Rattle.inequality.specs.Motion.{wholeLaw}
 use Rattle.inequality.proofs.Cases.{if-≤, if-<}
 use Rattle.inequality.proofs.Evaluation.{law-le, exact-le}

@@ -59,7 +59,3 @@ lunarAtReply h t = refuseIf (anomalisticHalf ≤? t) outside (answer (lunarAt h 
 abbrev pub lunarHalf : LunarHalfAsked → LunarHalf
 lunarHalf Quick = quick
 lunarHalf Tardy = tardy
-
--- a count from the nearer end of a half: what is past the middle counts from the end, and past the end there is nothing
-unfoldable pub fromNearerEnd : ℕ → ℕ → ℕ
-fromNearerEnd n m = if n ≤? m then n else 2 * m - n

@@ -1,5 +1,5 @@
 // The solar and the lunar inequality, and the moon's motion in a limit.
-mod cubic;
+mod laws;
 mod limits;
 mod motions;
 
@@ -100,7 +100,7 @@ pub fn lunar(anomaly: u64) -> i64
     }
 }
 
-// The motion at an anomaly: worked out, as a table that is read at one place is laid out anew for it.
+// The motion at an anomaly, by its rule: a constant table is laid out anew wherever it is read.
 pub fn motion(anomaly: u64) -> u64
     requires { ⌜ anomaly < anomalisticMonth ⌝ }
     ensures { λ r. ⌜ r ≡ motion anomaly ⌝ }
@@ -123,9 +123,9 @@ fn fast(time: u64) -> u64
     ensures { λ r. ⌜ r ≡ fastAt time ⌝ }
 {
     if time <= FAST_LIMIT {
-        cubic::law_at(cubic::LAW_A, time)
+        laws::law_at(laws::LAW_A, time)
     } else {
-        cubic::law_at(cubic::LAW_B, HALF_YEAR - time)
+        laws::law_at(laws::LAW_B, HALF_YEAR - time)
     }
 }
 
@@ -134,9 +134,9 @@ fn slow(time: u64) -> u64
     ensures { λ r. ⌜ r ≡ slowAt time ⌝ }
 {
     if time <= SLOW_LIMIT {
-        cubic::law_at(cubic::LAW_B, time)
+        laws::law_at(laws::LAW_B, time)
     } else {
-        cubic::law_at(cubic::LAW_A, HALF_YEAR - time)
+        laws::law_at(laws::LAW_A, HALF_YEAR - time)
     }
 }
 
@@ -145,8 +145,8 @@ fn magnitude(time: u64) -> u64
     requires { ⌜ time ≤ anomalisticHalf ⌝ }
     ensures { λ r. ⌜ r ≡ lunarMagnitude (limits time) ⌝ }
 {
-    cubic::law_at(
-        cubic::LAW_MOON,
+    laws::law_at(
+        laws::LAW_MOON,
         limits::from_nearer_end(limits::in_time(time), MIDDLE * DAY),
     )
 }

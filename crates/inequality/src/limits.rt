@@ -3,7 +3,8 @@ use measure::DAY;
 ghost use mathlib.Core.Path.{_≡_};
 ghost use Prim.Native.Nat.{_*_, _≤_};
 ghost use Rattle.measure.specs.Units.{day, anomalisticHalf};
-ghost use Rattle.inequality.specs.Lunar.{limits, fromNearerEnd};
+ghost use Rattle.inequality.specs.Evaluation.{fromNearerEnd};
+ghost use Rattle.inequality.specs.Lunar.{limits};
 ghost use Rattle.inequality.specs.Motion.{wholeLimit};
 
 pub const MIDDLE: u64 = 84;

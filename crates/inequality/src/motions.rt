@@ -1,5 +1,5 @@
 // The moon's motions: by their rule, and as a table of 168 rows of the quick half and then 168 of the tardy half.
-use crate::cubic::LAW_MOON;
+use crate::laws::LAW_MOON;
 use crate::limits;
 use crate::limits::MIDDLE;
 ghost use mathlib.Core.Path.{_≡_};

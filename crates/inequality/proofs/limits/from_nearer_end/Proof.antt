@@ -2,7 +2,7 @@
 use native.Mathlib.Omega.{arith}
 use borrow.Author.Needs.{needs}
 use borrow.Author.Tests.{le-leb, lt-leb}
-use Rattle.inequality.specs.Lunar.{fromNearerEnd}
+use Rattle.inequality.specs.Evaluation.{fromNearerEnd}
 use Rattle.inequality.proofs.limits.from_nearer_end.Statement.{statement}
 use Rattle.inequality.proofs.limits.from_nearer_end.Tie as tie
 
