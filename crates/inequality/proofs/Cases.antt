@@ -1,16 +1,10 @@
 -- What holds of a choice: that which holds of each case where its test leads there.
 -- Assumes nothing.
 use mathlib.Core.Bool.{Bool, true, false, not}
-use mathlib.Core.Logic.{_⊎_, inl, inr}
 use mathlib.Core.Path.{_≡_, refl}
 use Prim.Native.Nat.{ℕ, _≤_, _<_}
-use native.Mathlib.Decide.{decLt}
-use native.Mathlib.Omega.{arith}
 use lib.Dec.{T, leb→le, nleb→lt, ltb→lt, nltb→le}
 use Rattle.measure.specs.Choice.{if_then_else_, _≤?_, _<?_}
-
-pub lt-or-ge : (m n : ℕ) → (m < n) ⊎ (n ≤ m)
-lt-or-ge m n = elim (decLt m n) [ yes h ↦ inl h | no h ↦ inr (omega arith) ]
 
 module _ {A : Type 0} (P : A → Type 0) (m n : ℕ) (a b : A) where
   pub if-≤ : (m ≤ n → P a) → (n < m → P b) → P (if m ≤? n then a else b)

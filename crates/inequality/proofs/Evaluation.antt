@@ -1,11 +1,13 @@
--- Where a law is evaluated, each of its steps is bounded, and the law by its first coefficient.
+-- Where a law is evaluated, each of its steps is bounded, and the law by its first coefficient; and the exact law with fewer products.
 -- Assumes nothing.
-use mathlib.Core.Path.{_≡_}
+use mathlib.Core.Path.{_≡_, ap}
 use Prim.Native.Nat.{ℕ, _+_, _*_, _-_, _/_, _≤_}
+use native.Mathlib.Nat.{sub-add-cancel}
 use native.Mathlib.Omega.{arith}
 use Rattle.measure.specs.Units.{day}
 use Rattle.measure.proofs.Product.{product}
-use Rattle.inequality.specs.Law.{Law, fine, taken, law, reach, Evaluated}
+use Rattle.inequality.specs.Law.{Law, fine, taken, law, exact}
+use Rattle.inequality.specs.Evaluation.{reach, Evaluated}
 
 -- what the third coefficient brings
 abbrev pub growth : Law → ℕ → ℕ
@@ -28,3 +30,20 @@ module _ (c : Law) (t : ℕ) (h : Evaluated c t) where
   unfolding law
   law-le =
       omega (arith, product (c .first * fine - taken c t) t (c .first * fine) t (omega arith) (omega arith))
+
+module _ (c : Law) (k : ℕ) (h : (c .second + c .third * reach) * reach ≤ c .first) (r : k ≤ reach) where
+  pub inner-le : k * (c .second + k * c .third) ≤ c .first
+  inner-le =
+      omega (
+        arith,
+        product k (c .second + k * c .third) reach (c .second + reach * c .third) r
+            (omega (arith, product k (c .third) reach (c .third) r (omega arith))),
+      )
+
+  pub nested : k * (c .first - k * (c .second + k * c .third)) ≡ exact c k
+  unfolding exact
+  nested = omega (arith, ap (λ (x : ℕ). k * x) (sub-add-cancel inner-le))
+
+  pub exact-le : exact c k ≤ reach * c .first
+  unfolding exact
+  exact-le = omega (arith, product k (c .first) reach (c .first) r (omega arith))

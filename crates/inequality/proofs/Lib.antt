@@ -1,8 +1,10 @@
 pub mod Cases
 pub mod Integers
 pub mod Evaluation
-pub mod Sizes
 pub mod NearerEnd
+pub mod Sizes
+pub mod Cubic
 pub mod Table
 pub mod MotionRows
 pub mod LawStep
+pub mod Unique

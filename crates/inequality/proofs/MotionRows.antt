@@ -9,11 +9,11 @@ use native.Mathlib.Nat.{le-of-suc-le-suc, not-suc-le-zero, eq-or-lt-of-le, add-s
 use native.Mathlib.Omega.{arith}
 use lib.Dec.{T, leb→le}
 use borrow.Author.Tests.{lt-ltb, le-ltb}
-use Rattle.measure.specs.Choice.{if_then_else_, _≤?_, _<?_}
+use Rattle.measure.specs.Choice.{_≤?_}
 use Rattle.measure.specs.Units.{day, anomalisticHalf}
 use Rattle.inequality.specs.Law.{exact}
 use Rattle.inequality.specs.Lunar.{quick, tardy, end, limits, anomalyAdvance}
-use Rattle.inequality.specs.Motion.{wholeLimit, wholeLaw, motionAt, rows, motionInRow, rowOf, motion}
+use Rattle.inequality.specs.Motion.{meanMotion, wholeLimit, wholeLaw, motionAt, rows, motionInRow, rowOf, motion}
 use Rattle.inequality.proofs.Cases.{if-<}
 
 both-left : (a b : Bool) → T (a && b) → T a
@@ -129,6 +129,23 @@ quick-row k h = simp (lt-ltb _ _ h)
 pub tardy-row : (k : ℕ) → motionInRow (end + k) ≡ motionAt tardy k
 unfolding motionInRow
 tardy-row k = simp (le-ltb (end + k) end (omega arith), add-sub-cancel-left)
+
+-- so neither difference falls below 0
+pub quick-rises : (k : ℕ) → k < end → wholeLaw k ≤ meanMotion + wholeLaw (k + 1)
+unfolding motionAt
+quick-rises k h = omega (arith, row-least k (omega arith), quick-row k h)
+
+pub tardy-rises : (k : ℕ) → k < end → wholeLaw (k + 1) ≤ meanMotion + wholeLaw k
+unfolding motionAt
+tardy-rises k h = omega (arith, row-least (end + k) (omega arith), tardy-row k)
+
+pub motion-quick : (a : ℕ) → a < anomalisticHalf → motion a ≡ motionAt quick (wholeLimit a)
+unfolding motion rowOf
+motion-quick a h = simp (lt-ltb _ _ h) (quick-row (wholeLimit a) (omega arith))
+
+pub motion-tardy : (a : ℕ) → anomalisticHalf ≤ a → motion a ≡ motionAt tardy (wholeLimit (a - anomalisticHalf))
+unfolding motion rowOf
+motion-tardy a h = simp (le-ltb _ _ h) (tardy-row (wholeLimit (a - anomalisticHalf)))
 
 pub motion-least : (a : ℕ) → leastMotion ≤ motion a
 unfolding motion

@@ -1,20 +1,28 @@
--- Limits counted from the nearer end of their half: what the lunar inequality is evaluated at.
+-- Limits counted from the nearer end of their half: what the laws of the moon are evaluated at.
 -- Assumes nothing.
-use mathlib.Core.Path.{_≡_, refl}
+use mathlib.Core.Path.{_≡_}
 use Prim.Native.Nat.{ℕ, _*_, _-_, _≤_}
 use native.Mathlib.Omega.{arith}
-use Rattle.measure.specs.Choice.{if_then_else_, _≤?_}
+use Rattle.measure.specs.Choice.{_≤?_}
 use Rattle.measure.specs.Units.{day}
-use Rattle.inequality.specs.Law.{lawMoon, law}
+use Rattle.inequality.specs.Law.{lawMoon, law, exact}
+use Rattle.inequality.specs.Evaluation.{reach, fromNearerEnd}
 use Rattle.inequality.specs.Lunar.{middle, end, lunarMagnitude}
+use Rattle.inequality.specs.Motion.{wholeLaw}
 use Rattle.inequality.proofs.Cases.{if-≤, if-through}
 
-abbrev nearer : ℕ → ℕ
-nearer n = if n ≤? middle * day then n else end * day - n
+pub nearer-le : (n m : ℕ) → fromNearerEnd n m ≤ m
+unfolding fromNearerEnd
+nearer-le n m = if-≤ (λ (v : ℕ). v ≤ m) n m _ _ (λ h. h) (λ h. omega arith)
 
-pub nearer-le : (n : ℕ) → nearer n ≤ middle * day
-nearer-le n = if-≤ (λ (v : ℕ). v ≤ middle * day) n (middle * day) _ _ (λ h. h) (λ h. omega arith)
+-- a whole limit so counted is within a law's reach
+pub nearer-reach : (n : ℕ) {k : ℕ} → k ≡ fromNearerEnd n middle → k ≤ reach
+nearer-reach n e = omega (arith, nearer-le n middle)
 
-pub magnitude-nearer : (n : ℕ) → law lawMoon (nearer n) ≡ lunarMagnitude n
-unfolding lunarMagnitude
+pub magnitude-nearer : (n : ℕ) → law lawMoon (fromNearerEnd n (middle * day)) ≡ lunarMagnitude n
+unfolding fromNearerEnd lunarMagnitude
 magnitude-nearer n = if-through (law lawMoon) (n ≤? middle * day) n (end * day - n)
+
+pub whole-nearer : (k : ℕ) → exact lawMoon (fromNearerEnd k middle) ≡ wholeLaw k
+unfolding fromNearerEnd wholeLaw
+whole-nearer k = if-through (exact lawMoon) (k ≤? middle) k (end - k)

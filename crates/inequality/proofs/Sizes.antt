@@ -2,13 +2,17 @@
 -- Assumes nothing.
 use Prim.Native.Nat.{ℕ, _+_, _*_, _-_, _≤_}
 use native.Mathlib.Omega.{arith}
+use lib.Dec.{lit≤}
 use Rattle.measure.specs.Units.{day, halfYear, anomalisticHalf}
 use Rattle.inequality.specs.Law.{lawA, lawB, lawMoon}
+use Rattle.inequality.specs.Evaluation.{fromNearerEnd}
 use Rattle.inequality.specs.Signed.{Signed}
 use Rattle.inequality.specs.Solar.{fastLimit, slowLimit, fastAt, slowAt, solar}
 use Rattle.inequality.specs.Lunar.{middle, end, limits, lunarMagnitude, lunar}
+use Rattle.inequality.specs.Motion.{wholeLaw}
 use Rattle.inequality.proofs.Cases.{if-≤, if-<}
-use Rattle.inequality.proofs.Evaluation.{law-le}
+use Rattle.inequality.proofs.Evaluation.{law-le, exact-le}
+use Rattle.inequality.proofs.NearerEnd.{nearer-le, whole-nearer}
 
 abbrev pub solarSize : ℕ
 solarSize = 457_000_000
@@ -33,6 +37,14 @@ unfolding lunarMagnitude
 magnitude-le n =
     if-≤ (λ (v : ℕ). v ≤ lunarSize) n (middle * day) _ _ (λ h. omega (arith, law-le lawMoon n (omega arith)))
     (λ h. omega (arith, law-le lawMoon (end * day - n) (omega arith)))
+
+pub whole-law-le : (k : ℕ) → wholeLaw k ≤ 2 * lunarSize
+whole-law-le k =
+    omega (
+      arith,
+      whole-nearer k,
+      exact-le lawMoon (fromNearerEnd k middle) (lit≤ tt) (omega (arith, nearer-le k middle)),
+    )
 
 -- at any solar time and any anomaly
 abbrev Within : ℕ → Signed → Type 0

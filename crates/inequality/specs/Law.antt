@@ -1,8 +1,7 @@
 -- The three laws with their coefficients, and how a law is evaluated, a rest dropped at each quotient.
 -- Assumes nothing.
-use Prim.Native.Nat.{ℕ, _+_, _*_, _-_, _/_, _≤_}
+use Prim.Native.Nat.{ℕ, _+_, _*_, _-_, _/_}
 use Rattle.measure.specs.Units.{day}
-use Rattle.inequality.specs.declared.cubic.Coefficients.{Coefficients}
 
 pub record Law : Type 0 where
   pub first : ℕ
@@ -35,15 +34,3 @@ law c t = (c .first * fine - taken c t) * t / day / fine
 -- the exact law at k whole days or limits
 unfoldable pub exact : Law → ℕ → ℕ
 exact c k = c .first * k - c .second * k * k - c .third * k * k * k
-
--- the law that a program's coefficients stand for
-abbrev pub lawWith : Coefficients → Law
-lawWith c = record { first = c .first; second = c .second; third = c .third }
-
--- how far a law is evaluated, in whole days or limits: 93 days and 84 limits occur
-abbrev pub reach : ℕ
-reach = 94
-
--- where a program evaluates a law: within its reach, on which no more is taken than stands there, and in 64 bits
-abbrev pub Evaluated : Law → ℕ → Type 0
-Evaluated c t = (c .first * fine ≤ 1_800 * day) × ((c .second + c .third * reach) * reach ≤ c .first) × (t ≤ reach * day)

@@ -1,5 +1,6 @@
 pub mod Signed
 pub mod Law
+pub mod Evaluation
 pub mod Solar
 pub mod Lunar
 pub mod Motion

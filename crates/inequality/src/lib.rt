@@ -1,21 +1,23 @@
 // The solar and the lunar inequality, and the moon's motion in a limit.
-mod cubic;
+mod laws;
+mod limits;
 mod motions;
 
+use limits::END;
+use limits::MIDDLE;
 use measure::ANOMALISTIC_HALF;
 use measure::Answer;
 use measure::DAY;
 use measure::HALF_YEAR;
 use measure::OUTSIDE;
 ghost use mathlib.Core.Path.{_≡_};
-ghost use Prim.Native.Nat.{_*_, _-_, _≤_, _<_};
-ghost use Rattle.measure.specs.Choice.{if_then_else_, _≤?_};
+ghost use Prim.Native.Nat.{_*_, _≤_, _<_};
 ghost use Rattle.measure.specs.Reply.{answerSaid};
 ghost use Rattle.measure.specs.Units.{day, year, halfYear, anomalisticMonth, anomalisticHalf};
 ghost use Rattle.inequality.specs.Signed.{aheadBy, behindBy, integer, asInteger, signedSaid};
 ghost use Rattle.inequality.specs.Solar.{fastAt, slowAt, solar, solarAtReply, solarHalf};
-ghost use Rattle.inequality.specs.Lunar.{middle, end, limits, lunarMagnitude, lunar, lunarAtReply, lunarHalf};
-ghost use Rattle.inequality.specs.Motion.{wholeLimit, motion, motionAtReply};
+ghost use Rattle.inequality.specs.Lunar.{limits, lunarMagnitude, lunar, lunarAtReply, lunarHalf};
+ghost use Rattle.inequality.specs.Motion.{motion, motionAtReply};
 
 // Fast is positive, slow negative.
 pub enum SolarHalf {
@@ -98,15 +100,17 @@ pub fn lunar(anomaly: u64) -> i64
     }
 }
 
-// The motion at an anomaly.
+// The motion at an anomaly, by its rule: a constant table is laid out anew wherever it is read.
 pub fn motion(anomaly: u64) -> u64
     requires { ⌜ anomaly < anomalisticMonth ⌝ }
     ensures { λ r. ⌜ r ≡ motion anomaly ⌝ }
 {
     if anomaly < ANOMALISTIC_HALF {
-        motions::in_row(whole_limit(anomaly))
+        let k = limits::whole(anomaly);
+        motions::MEAN + motions::whole_law(k + 1) - motions::whole_law(k)
     } else {
-        motions::in_row(END + whole_limit(anomaly - ANOMALISTIC_HALF))
+        let k = limits::whole(anomaly - ANOMALISTIC_HALF);
+        motions::MEAN + motions::whole_law(k) - motions::whole_law(k + 1)
     }
 }
 
@@ -119,9 +123,9 @@ fn fast(time: u64) -> u64
     ensures { λ r. ⌜ r ≡ fastAt time ⌝ }
 {
     if time <= FAST_LIMIT {
-        cubic::law_at(cubic::LAW_A, time)
+        laws::law_at(laws::LAW_A, time)
     } else {
-        cubic::law_at(cubic::LAW_B, HALF_YEAR - time)
+        laws::law_at(laws::LAW_B, HALF_YEAR - time)
     }
 }
 
@@ -130,22 +134,10 @@ fn slow(time: u64) -> u64
     ensures { λ r. ⌜ r ≡ slowAt time ⌝ }
 {
     if time <= SLOW_LIMIT {
-        cubic::law_at(cubic::LAW_B, time)
+        laws::law_at(laws::LAW_B, time)
     } else {
-        cubic::law_at(cubic::LAW_A, HALF_YEAR - time)
+        laws::law_at(laws::LAW_A, HALF_YEAR - time)
     }
-}
-
-const MIDDLE: u64 = 84;
-
-const END: u64 = 2 * MIDDLE;
-
-// The limits in a time, counted in as many parts as a day has.
-fn limits(time: u64) -> u64
-    requires { ⌜ time ≤ anomalisticHalf ⌝ }
-    ensures { λ r. ⌜ r ≡ limits time ⌝ }
-{
-    time * 122 / 10
 }
 
 // The magnitude at a time in either half.
@@ -153,29 +145,10 @@ fn magnitude(time: u64) -> u64
     requires { ⌜ time ≤ anomalisticHalf ⌝ }
     ensures { λ r. ⌜ r ≡ lunarMagnitude (limits time) ⌝ }
 {
-    cubic::law_at(cubic::LAW_MOON, from_nearer_end(limits(time)))
-}
-
-// Limits past the middle count from the end, and past the end there are none.
-fn from_nearer_end(limits: u64) -> u64
-    ensures { λ r. ⌜ r ≡ (if limits ≤? middle * day then limits else end * day - limits) ⌝ }
-{
-    if limits <= MIDDLE * DAY {
-        limits
-    } else if limits < END * DAY {
-        END * DAY - limits
-    } else {
-        0
-    }
-}
-
-// The whole limit at a time in a half: the last one holds what is past the end.
-fn whole_limit(time: u64) -> u64
-    requires { ⌜ time ≤ anomalisticHalf ⌝ }
-    ensures { λ r. ⌜ r ≡ wholeLimit time ⌝ }
-{
-    let whole = limits(time) / DAY;
-    if whole < END { whole } else { END - 1 }
+    laws::law_at(
+        laws::LAW_MOON,
+        limits::from_nearer_end(limits::in_time(time), MIDDLE * DAY),
+    )
 }
 
 fn ahead(magnitude: u64) -> i64

@@ -1,7 +1,28 @@
-// The moon's motions, as a table: 168 rows of the quick half, then 168 of the tardy half.
+// The moon's motions: by their rule, and as a table of 168 rows of the quick half and then 168 of the tardy half.
+use crate::laws::LAW_MOON;
+use crate::limits;
+use crate::limits::MIDDLE;
 ghost use mathlib.Core.Path.{_≡_};
 ghost use Prim.Native.Nat.{_<_};
-ghost use Rattle.inequality.specs.Motion.{rows, motionInRow};
+ghost use Rattle.inequality.specs.Motion.{wholeLaw, rows, motionInRow};
+
+pub const MEAN: u64 = 109_623_750;
+
+// The exact law at a whole limit.
+pub fn whole_law(limit: u64) -> u64
+    ensures { λ r. ⌜ r ≡ wholeLaw limit ⌝ }
+{
+    let k = limits::from_nearer_end(limit, MIDDLE);
+    k * (LAW_MOON.first - k * (LAW_MOON.second + k * LAW_MOON.third))
+}
+
+// The motion in a row of the table.
+pub fn in_row(row: u64) -> u64
+    requires { ⌜ row < rows ⌝ }
+    ensures { λ r. ⌜ r ≡ motionInRow row ⌝ }
+{
+    MOTIONS[row as usize]
+}
 
 const MOTIONS: [u64; 336] = [
     // quick
@@ -343,11 +364,3 @@ const MOTIONS: [u64; 336] = [
     120_647_175,
     120_705_325,
 ];
-
-// The motion in a row.
-pub fn in_row(row: u64) -> u64
-    requires { ⌜ row < rows ⌝ }
-    ensures { λ r. ⌜ r ≡ motionInRow row ⌝ }
-{
-    MOTIONS[row as usize]
-}

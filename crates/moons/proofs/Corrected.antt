@@ -9,7 +9,7 @@ use lib.IntN.{ℤ, pos, negsuc, negℤ, _+ℤ_, _-ℤ_, _*ℤ_}
 use lib.Signed.{mag, quotZ}
 use mir.Syntax.{w64}
 use mir.Val.{SFits, toZ, ofZ}
-use mir.Facts.{toZ-ofZ, toZ-pos}
+use mir.Facts.{toZ-ofZ}
 use Rattle.measure.specs.Epoch.{shoushi}
 use Rattle.inequality.specs.Signed.{Signed, aheadBy, minus, integer}
 use Rattle.inequality.specs.Solar.{solar, solarTime}
@@ -29,15 +29,15 @@ quot-neg (suc n) m = refl
 
 is-corrected : (z : ℤ) (x : Signed) (m : ℕ) → Is z x → Is (quotZ (z *ℤ pos correctionFactor) (pos m)) (corrected x m)
 unfolding corrected
-is-corrected (pos n) x m h =
-    let left : x .ahead - x .behind ≡ n = omega arith in
-    let none : x .behind - x .ahead ≡ 0 = omega arith in
-    simp (left, none, zero-div) (omega arith)
 is-corrected (negsuc n) x m h =
     let none : x .ahead - x .behind ≡ 0 = omega arith in
     let left : x .behind - x .ahead ≡ suc n = omega arith in
     rw (quot-neg (suc n * correctionFactor) m)
     (is-neg (suc n * correctionFactor / m) (corrected x m) (simp (left, none, zero-div) (omega arith)))
+is-corrected (pos n) x m h =
+    let left : x .ahead - x .behind ≡ n = omega arith in
+    let none : x .behind - x .ahead ≡ 0 = omega arith in
+    simp (left, none, zero-div) (omega arith)
 
 unfoldable pub difference : ℕ → ℕ → ℤ
 difference s a = integer (solar s) -ℤ integer (lunar a)

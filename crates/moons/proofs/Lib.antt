@@ -1,3 +1,4 @@
 pub mod Admitted
 pub mod Times
 pub mod Corrected
+pub mod Unique

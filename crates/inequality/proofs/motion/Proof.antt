@@ -1,42 +1,98 @@
 -- `inequality::motion` meets its contract. Assumes nothing.
-use mathlib.Core.Path.{_∙_, ap}
-use borrow.Author.Tests.{lt-ltb, le-ltb}
-use Rattle.inequality.specs.Motion.{motionInRow, rowOf, motion}
+use Prim.Native.Nat.{_+_}
+use native.Mathlib.Omega.{arith}
 use borrow.Author.Needs.{needs}
+use Rattle.inequality.specs.Motion.{motionAt}
+use Rattle.inequality.proofs.Sizes.{whole-law-le}
+use Rattle.inequality.proofs.MotionRows.{quick-rises, tardy-rises, motion-quick, motion-tardy}
 use Rattle.inequality.proofs.motion.Statement.{statement}
 use Rattle.inequality.proofs.motion.Tie as tie
 
-whole-limit-requires : tie.Need-whole-limit-requires
-whole-limit-requires c κs = search needs
+whole-requires : tie.Need-whole-requires
+whole-requires c κs = search needs
 
-in-row-requires : tie.Need-in-row-requires
-in-row-requires c κs = search needs
+add-whole-law : tie.Need-add-whole-law
+add-whole-law c = search needs
 
-whole-limit-requires-2 : tie.Need-whole-limit-requires-2
-whole-limit-requires-2 c κs = search needs
+whole-law-requires : tie.Need-whole-law-requires
+whole-law-requires c κs = search needs
 
-add-in-row : tie.Need-add-in-row
-add-in-row c = search needs
+add-result : tie.Need-add-result
+add-result c = omega (arith, whole-law-le (c .before .whole .result + 1), c .whole-law .ensures)
 
-in-row-requires-2 : tie.Need-in-row-requires-2
-in-row-requires-2 c κs = search needs
+whole-law-requires-2 : tie.Need-whole-law-requires-2
+whole-law-requires-2 c κs = search needs
+
+sub-result : tie.Need-sub-result
+sub-result c =
+    omega (
+      arith,
+      quick-rises (c .before .before .whole .result) (omega arith),
+      c .before .whole-law .ensures,
+      c .whole-law2 .ensures,
+    )
+
+whole-requires-2 : tie.Need-whole-requires-2
+whole-requires-2 c κs = search needs
+
+whole-law-requires-3 : tie.Need-whole-law-requires-3
+whole-law-requires-3 c κs = search needs
+
+add-result-2 : tie.Need-add-result-2
+add-result-2 c = omega (arith, whole-law-le (c .before .whole2 .result), c .whole-law3 .ensures)
+
+add-whole-law-2 : tie.Need-add-whole-law-2
+add-whole-law-2 c = search needs
+
+whole-law-requires-4 : tie.Need-whole-law-requires-4
+whole-law-requires-4 c κs = search needs
+
+sub-result-2 : tie.Need-sub-result-2
+sub-result-2 c =
+    omega (
+      arith,
+      tardy-rises (c .before .before .whole2 .result) (omega arith),
+      c .before .whole-law3 .ensures,
+      c .whole-law4 .ensures,
+    )
 
 returns : tie.Need-returns
-unfolding motion rowOf
-returns c = simp (lt-ltb _ _ (c .before .before .if1 .taken), c .in-row .ensures, c .before .whole-limit .ensures)
+unfolding motionAt
+returns c =
+    let w = c .before .before in
+    simp (
+      motion-quick _ (w .before .if1 .taken),
+      c .before .whole-law .ensures,
+      c .whole-law2 .ensures,
+      w .whole .ensures,
+    )
 
 returns-2 : tie.Need-returns-2
-unfolding motion rowOf
-returns-2 c = simp (le-ltb _ _ (c .before .before .if1 .left), c .in-row2 .ensures, c .before .whole-limit2 .ensures)
+unfolding motionAt
+returns-2 c =
+    let w = c .before .before in
+    simp (
+      motion-tardy _ (w .before .if1 .left),
+      c .before .whole-law3 .ensures,
+      c .whole-law4 .ensures,
+      w .whole2 .ensures,
+    )
 
 pub motion-spec : {M : Type 1} → statement M
 motion-spec =
     tie.close
     (tie.spec
-    whole-limit-requires
-    in-row-requires
-    whole-limit-requires-2
-    add-in-row
-    in-row-requires-2
+    whole-requires
+    add-whole-law
+    whole-law-requires
+    add-result
+    whole-law-requires-2
+    sub-result
+    whole-requires-2
+    whole-law-requires-3
+    add-result-2
+    add-whole-law-2
+    whole-law-requires-4
+    sub-result-2
     returns
     returns-2)

@@ -1,6 +1,4 @@
 -- `inequality::motion_at` meets its contract. Assumes nothing.
-use mathlib.Core.Path.{_∙_}
-use native.Mathlib.Omega.{arith}
 use borrow.Author.Needs.{needs}
 use borrow.Author.Tests.{le-leb, lt-leb}
 use Rattle.inequality.specs.Motion.{motionAtReply}

@@ -1,10 +1,11 @@
--- `inequality::cubic::law_at` meets its contract. Assumes nothing.
+-- `inequality::laws::law_at` meets its contract. Assumes nothing.
 use native.Mathlib.Omega.{arith}
-use Rattle.inequality.specs.Law.{lawWith, taken, law}
+use Rattle.inequality.specs.Law.{taken, law}
+use Rattle.inequality.specs.Evaluation.{lawWith}
 use Rattle.inequality.proofs.Evaluation.{growth-le, taken-le}
 use borrow.Author.Needs.{needs}
-use Rattle.inequality.proofs.cubic.law_at.Statement.{statement}
-use Rattle.inequality.proofs.cubic.law_at.Tie as tie
+use Rattle.inequality.proofs.laws.law_at.Statement.{statement}
+use Rattle.inequality.proofs.laws.law_at.Tie as tie
 
 mul-over-day : tie.Need-mul-over-day
 mul-over-day c = search needs

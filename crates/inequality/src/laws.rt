@@ -1,7 +1,8 @@
 // The three laws, and how a law is evaluated.
 use measure::over_day;
 ghost use mathlib.Core.Path.{_≡_};
-ghost use Rattle.inequality.specs.Law.{law, lawWith, Evaluated};
+ghost use Rattle.inequality.specs.Evaluation.{lawWith, Evaluated};
+ghost use Rattle.inequality.specs.Law.{law};
 
 pub struct Coefficients {
     pub first: u64,

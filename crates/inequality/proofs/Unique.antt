@@ -1,0 +1,51 @@
+-- Each question's contract determines its reply.
+-- Assumes nothing.
+use mathlib.Core.Path.{_≡_, _∙_, refl, sym}
+use lib.IntN.{ℤ}
+use Rattle.measure.specs.Reply.{Reply, answer, refused}
+use Rattle.measure.proofs.Determined.{OneReply, read-back, one-answer}
+use Rattle.inequality.specs.Signed.{signedSaid}
+use Rattle.inequality.specs.declared.SignedAnswer.{SignedAnswer}
+use Rattle.inequality.specs.declared.SignedAnswer.the-variants.{Number, Refused}
+use Rattle.inequality.proofs.solar_at.Kinds as solar-at
+use Rattle.inequality.proofs.solar_at.Reads as solar-at-reads
+use Rattle.inequality.proofs.lunar_at.Kinds as lunar-at
+use Rattle.inequality.proofs.lunar_at.Reads as lunar-at-reads
+use Rattle.inequality.proofs.motion_at.Kinds as motion-at
+use Rattle.inequality.proofs.motion_at.Reads as motion-at-reads
+use Rattle.inequality.proofs.solar.Kinds as solar
+use Rattle.inequality.proofs.solar.Reads as solar-reads
+use Rattle.inequality.proofs.lunar.Kinds as lunar
+use Rattle.inequality.proofs.lunar.Reads as lunar-reads
+use Rattle.inequality.proofs.motion.Kinds as motion
+use Rattle.inequality.proofs.motion.Reads as motion-reads
+
+signedMeant : Reply ℤ → SignedAnswer
+signedMeant (answer z) = Number z
+signedMeant (refused k) = Refused k
+
+signed-back : (a : SignedAnswer) → signedMeant (signedSaid a) ≡ a
+unfolding signedMeant
+signed-back (Number z) = refl
+signed-back (Refused k) = refl
+
+pub one-signed : (x y : SignedAnswer) (z : Reply ℤ) → signedSaid x ≡ z → signedSaid y ≡ z → x ≡ y
+one-signed = read-back signedSaid signedMeant signed-back
+
+pub solar-at-unique : OneReply solar-at.ps solar-at.r solar-at-reads.Post
+solar-at-unique κs a x y s t p q = one-signed x y _ p q
+
+pub lunar-at-unique : OneReply lunar-at.ps lunar-at.r lunar-at-reads.Post
+lunar-at-unique κs a x y s t p q = one-signed x y _ p q
+
+pub motion-at-unique : OneReply motion-at.ps motion-at.r motion-at-reads.Post
+motion-at-unique κs a x y s t p q = one-answer x y _ p q
+
+pub solar-unique : OneReply solar.ps solar.r solar-reads.Post
+solar-unique κs a x y s t p q = p ∙ sym q
+
+pub lunar-unique : OneReply lunar.ps lunar.r lunar-reads.Post
+lunar-unique κs a x y s t p q = p ∙ sym q
+
+pub motion-unique : OneReply motion.ps motion.r motion-reads.Post
+motion-unique κs a x y s t p q = p ∙ sym q
