@@ -1,0 +1,39 @@
+-- Laws of a text's first part and of what follows it. Assumes nothing.
+use mathlib.Core.Path.{_≡_, _∙_, refl, ap}
+use mathlib.Core.List.{List, [], _∷_}
+use Prim.Native.Nat.{ℕ, _+_, _-_}
+use lib.ListN.{length, take, drop, getD, length-drop}
+use lib.Seq.{take-length}
+use native.Mathlib.Omega.{arith}
+use borrow.Author.Tests.{eq-eqb, ne-eqb}
+use Rattle.bytes.specs.Bytes.{indexOf, slice}
+use Rattle.words.specs.Numbers.{endOf, partOf, restOf}
+
+-- the end, as a search from the place after the blank answers it
+pub end-is : (s : List ℕ) → 1 + indexOf 32 (slice 1 (length s) s) ≡ endOf s
+unfolding endOf slice
+end-is s = rw take-length
+
+module _ (s : List ℕ) where
+  pub part-other : (getD s 0 0 ≡ 32 → ⊥) → partOf s ≡ []
+  unfolding partOf
+  part-other h = simp (ne-eqb _ _ h)
+
+  pub part-to : (e : ℕ) → e ≡ endOf s → getD s 0 0 ≡ 32 → take (e - 1) (drop 1 s) ≡ partOf s
+  unfolding partOf
+  part-to e h b = simp (eq-eqb _ _ b, h)
+
+  pub rest-from : (e : ℕ) → e ≡ endOf s → take (length s - e) (drop e s) ≡ restOf s
+  unfolding restOf
+  rest-from e h = rw (← length-drop e s) (take-length (drop e s)) ∙ ap (λ (k : ℕ). drop k s) h
+
+-- an empty text has no part, and nothing follows
+pub part-none : (s : List ℕ) → length s ≡ 0 → s ≡ partOf s
+unfolding partOf
+part-none [] e = refl
+part-none (x ∷ xs) e = absurd (omega arith)
+
+pub rest-none : (s : List ℕ) → length s ≡ 0 → s ≡ restOf s
+unfolding restOf endOf indexOf
+rest-none [] e = refl
+rest-none (x ∷ xs) e = absurd (omega arith)

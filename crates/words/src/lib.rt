@@ -1,0 +1,104 @@
+// The parts of a line of text, and the decimal numbers among them.
+ghost use mathlib.Core.Path.{_≡_};
+ghost use Rattle.words.specs.Number.{numberOf};
+ghost use Rattle.words.specs.Numbers.{partOf, restOf, numbersOf};
+
+pub enum Number {
+    Value(u64),
+    Bad,
+}
+
+// The number that s writes: 1 to 20 digits, and below 2 ^ 64.
+pub fn number_in(s: &[u8]) -> Number
+    ensures { λ r. ⌜ r ≡ numberOf (now (s .entry)) ⌝ }
+{
+    if s.len() == 0 {
+        return Number::Bad;
+    }
+    if s.len() > 20 {
+        return Number::Bad;
+    }
+    let mut v: u64 = 0;
+    let mut i: usize = 0;
+    while i < s.len() {
+        let b = s[i];
+        if b < 48 {
+            return Number::Bad;
+        }
+        if b > 57 {
+            return Number::Bad;
+        }
+        let d = (b - 48) as u64;
+        if v > (u64::MAX - d) / 10 {
+            return Number::Bad;
+        }
+        v = v * 10 + d;
+        i += 1;
+    }
+    Number::Value(v)
+}
+
+// Up to three numbers; Other where there are more, or something else.
+pub enum Numbers {
+    Nothing,
+    One(u64),
+    Two(u64, u64),
+    Three(u64, u64, u64),
+    Other,
+}
+
+// The numbers of s, each with one blank before it.
+pub fn numbers_in(s: &[u8]) -> Numbers
+    ensures { λ r. ⌜ r ≡ numbersOf (now (s .entry)) ⌝ }
+{
+    if s.len() == 0 {
+        return Numbers::Nothing;
+    }
+    let Number::Value(a) = number_in(part_in(s)) else {
+        return Numbers::Other;
+    };
+    let t = rest_in(s);
+    if t.len() == 0 {
+        return Numbers::One(a);
+    }
+    let Number::Value(b) = number_in(part_in(t)) else {
+        return Numbers::Other;
+    };
+    let u = rest_in(t);
+    if u.len() == 0 {
+        return Numbers::Two(a, b);
+    }
+    let Number::Value(c) = number_in(part_in(u)) else {
+        return Numbers::Other;
+    };
+    let v = rest_in(u);
+    if v.len() == 0 {
+        return Numbers::Three(a, b, c);
+    }
+    Numbers::Other
+}
+
+// The part after the blank with which s starts, as far as the next blank. Where s starts otherwise it is empty.
+pub fn part_in<'a>(s: &'a [u8]) -> &'a [u8]
+    ensures { λ r. ⌜ now r ≡ partOf (now (s .entry)) ⌝ }
+{
+    if s.len() == 0 {
+        return s;
+    }
+    if s[0] != b' ' {
+        return &s[0..0];
+    }
+    let end = bytes::scan::find(s, 1, s.len(), b' ');
+    &s[1..end]
+}
+
+// What follows the first part: from the next blank on.
+pub fn rest_in<'a>(s: &'a [u8]) -> &'a [u8]
+    ensures { λ r. ⌜ now r ≡ restOf (now (s .entry)) ⌝ }
+{
+    if s.len() == 0 {
+        return s;
+    }
+    let from = bytes::scan::find(s, 1, s.len(), b' ');
+    &s[from..]
+}
