@@ -1,9 +1,10 @@
 // The questions on a day: its name, its hours, the extra and the vanishing day.
+use crate::lists;
 use crate::reply::Reply;
 use crate::reply::malformed;
 use words::Numbers;
 
-// A word that is not here is no question.
+// A word that is not here is handed on to the next list.
 pub fn answer(word: &[u8], rest: &[u8]) -> Reply {
     if check::same(word, b"name") {
         return name(rest);
@@ -17,7 +18,7 @@ pub fn answer(word: &[u8], rest: &[u8]) -> Reply {
     if check::same(word, b"vanishing") {
         return vanishing(rest);
     }
-    malformed()
+    lists::answer(word, rest)
 }
 
 fn name(rest: &[u8]) -> Reply {

@@ -3,7 +3,11 @@
 mod ask;
 mod constants;
 mod days;
+mod directs;
 mod input;
+mod lists;
+mod lunations;
+mod record;
 mod reply;
 mod times;
 mod write;

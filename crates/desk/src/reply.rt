@@ -1,8 +1,11 @@
 // The replies, and how each is written.
 use crate::constants;
+use crate::record;
 use crate::write;
 use crate::write::Out;
+use inequality::SignedAnswer;
 use measure::Answer;
+use months::Month;
 
 pub enum Reply {
     // By its number.
@@ -12,10 +15,16 @@ pub enum Reply {
     One(u64),
     Two(u64, u64),
     Three(u64, u64, u64),
+    Signed(i64),
+    // The month of a day.
+    Month(Month),
     // A running time: written with its day, its remainder and the day's name.
     Moment(u64),
     // The 24 terms of a year, which are reckoned as they are written.
     Terms(u64),
+    // The months of a year and of so many years from one on, likewise.
+    Year(u64),
+    Years(u64, u64),
     Constants,
     Help,
 }
@@ -23,6 +32,22 @@ pub enum Reply {
 // The reply to what is no question.
 pub fn malformed() -> Reply {
     Reply::Refused(measure::BAD_LINE)
+}
+
+// The reply of a number.
+pub fn number_of(a: Answer) -> Reply {
+    match a {
+        Answer::Refused(k) => Reply::Refused(k),
+        Answer::Number(n) => Reply::One(n),
+    }
+}
+
+// The reply of a signed number.
+pub fn signed_of(a: SignedAnswer) -> Reply {
+    match a {
+        SignedAnswer::Refused(k) => Reply::Refused(k),
+        SignedAnswer::Number(n) => Reply::Signed(n),
+    }
 }
 
 // The reply of a running time.
@@ -46,14 +71,18 @@ fn body(buf: &mut [u8], o: Out, r: Reply) -> Out {
         Reply::One(a) => write::number(buf, o, a),
         Reply::Two(a, b) => two(buf, o, a, b),
         Reply::Three(a, b, c) => three(buf, o, a, b, c),
+        Reply::Signed(a) => write::signed(buf, o, a),
+        Reply::Month(m) => record::month(buf, o, m),
         Reply::Moment(t) => moment(buf, o, t),
         Reply::Terms(n) => terms(buf, o, n),
+        Reply::Year(n) => record::year(buf, o, n),
+        Reply::Years(n, c) => record::years(buf, o, n, c),
         Reply::Constants => constants::all(buf, o),
         Reply::Help => help(buf, o),
     }
 }
 
-fn refused(buf: &mut [u8], o: Out, k: u64) -> Out {
+pub fn refused(buf: &mut [u8], o: Out, k: u64) -> Out {
     write::named(buf, o, b"refused ", k)
 }
 
@@ -91,5 +120,19 @@ fn help(buf: &mut [u8], o: Out) -> Out {
         b"solstice N, term N I, pentad N I P, earth N I, terms N, ",
     );
     let o = write::text(buf, o, b"name D, hour R, extra R, vanishing R, ");
-    write::text(buf, o, b"help")
+    let o = write::text(
+        buf,
+        o,
+        b"mean L Q, true L Q, solar L Q, lunar L Q, correction L Q, motion L Q, ",
+    );
+    let o = write::text(
+        buf,
+        o,
+        b"solar-at fast|slow T, lunar-at quick|tardy T, motion-at quick|tardy K, ",
+    );
+    write::text(
+        buf,
+        o,
+        b"head N, day D, back N P M, year N, years N C, help",
+    )
 }

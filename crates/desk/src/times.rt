@@ -1,5 +1,5 @@
 // The questions on a year's times: its solstice, terms, pentads and earth-rule days.
-use crate::days;
+use crate::lunations;
 use crate::reply::Reply;
 use crate::reply::malformed;
 use crate::reply::moment_of;
@@ -22,7 +22,7 @@ pub fn answer(word: &[u8], rest: &[u8]) -> Reply {
     if check::same(word, b"terms") {
         return terms(rest);
     }
-    days::answer(word, rest)
+    lunations::answer(word, rest)
 }
 
 fn solstice(rest: &[u8]) -> Reply {

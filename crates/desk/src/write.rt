@@ -60,6 +60,15 @@ pub fn number(buf: &mut [u8], o: Out, x: u64) -> Out {
     text(buf, o, &digits[..n])
 }
 
+// A negative number has a sign before it.
+pub fn signed(buf: &mut [u8], o: Out, x: i64) -> Out {
+    if x < 0 {
+        let r = byte(buf, o, b'-');
+        return number(buf, r, inequality::magnitude_of(x));
+    }
+    number(buf, o, inequality::magnitude_of(x))
+}
+
 // A blank and a number.
 pub fn then(buf: &mut [u8], o: Out, x: u64) -> Out {
     let r = byte(buf, o, b' ');

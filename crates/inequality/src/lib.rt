@@ -11,6 +11,7 @@ use measure::DAY;
 use measure::HALF_YEAR;
 use measure::OUTSIDE;
 ghost use mathlib.Core.Path.{_≡_};
+ghost use lib.IntN.{natAbs};
 ghost use Prim.Native.Nat.{_*_, _≤_, _<_};
 ghost use Rattle.measure.specs.Reply.{answerSaid};
 ghost use Rattle.measure.specs.Units.{day, year, halfYear, anomalisticMonth, anomalisticHalf};
@@ -163,4 +164,15 @@ fn behind(magnitude: u64) -> i64
     ensures { λ r. ⌜ r ≡ integer (behindBy magnitude) ⌝ }
 {
     -(magnitude as i64)
+}
+
+// How large a signed number is, without its sign.
+pub fn magnitude_of(number: i64) -> u64
+    ensures { λ r. ⌜ r ≡ natAbs number ⌝ }
+{
+    if number < 0 {
+        (-(number + 1)) as u64 + 1
+    } else {
+        number as u64
+    }
 }

@@ -1,0 +1,92 @@
+-- `inequality::magnitude_of` meets its contract: one more than a negative number fits, and its opposite is one less than the magnitude.
+-- Assumes nothing.
+use mathlib.Core.Bool.{Bool, true, false, not}
+use mathlib.Core.Path.{_≡_, refl, ap, sym, subst, _∙_}
+use Prim.Native.Nat.{ℕ, zero, suc, _+_, _<_}
+use native.Mathlib.Nat.{not-suc-le-zero}
+use native.Mathlib.Omega.{arith}
+use lib.Dec.{T, ltb→lt}
+use lib.IntN.{ℤ, pos, negsuc, negℤ, natAbs, _+ℤ_, _-ℤ_}
+use lib.Signed.{mag, nonNeg, ltZ, ltZ-no, yes-nonNeg, _<ℤ_}
+use mir.Syntax.{w64}
+use mir.Val.{SFits, ofZ, toZ}
+use mir.Facts.{toZ-ofZ, toZ-pos, fits-natAbs}
+use borrow.Author.Needs.{needs}
+use borrow.Author.Tests.{lt-ltb}
+use Rattle.inequality.proofs.Integers.{opposite-mag}
+use Rattle.inequality.proofs.magnitude_of.Statement.{statement}
+use Rattle.inequality.proofs.magnitude_of.Tie as tie
+
+-- one more than a negative number
+one-up : (n : ℕ) → negsuc n +ℤ pos 1 ≡ negℤ (pos n)
+one-up zero = refl
+one-up (suc n) = simp (lt-ltb 1 (suc (suc n)) (omega arith)) (ap negsuc (omega arith))
+
+back : (n : ℕ) → pos 0 -ℤ negℤ (pos n) ≡ pos n
+back zero = refl
+back (suc n) = ap pos (omega arith)
+
+record Negative (z : ℤ) : Type 0 where
+  up-fits : SFits w64 (z +ℤ pos 1)
+  opposite : pos 0 -ℤ (z +ℤ pos 1) ≡ pos (mag z)
+  size : mag z + 1 ≡ natAbs z
+
+negative : (z : ℤ) → z <ℤ pos 0 → SFits w64 z → Negative z
+negative (pos n) h f = absurd (not-suc-le-zero (ltb→lt n 0 (h .lt)))
+negative (negsuc n) h f =
+    record {
+      up-fits = rw (one-up n) (record { sfits = omega (arith, opposite-mag n, f .sfits) });
+      opposite = ap (λ (z : ℤ). pos 0 -ℤ z) (one-up n) ∙ back n;
+      size = omega arith;
+    }
+
+-- the two arms' tests
+module _ (z : ℤ) (f : SFits w64 z) where
+  below : ltZ (toZ w64 (ofZ w64 z)) (toZ w64 (ofZ w64 (pos 0))) ≡ true → Negative z
+  below e = negative z (record { lt = subst T (sym (simp (toZ-ofZ f) at e)) tt }) f
+
+  above : ltZ (toZ w64 (ofZ w64 z)) (toZ w64 (ofZ w64 (pos 0))) ≡ false → T (nonNeg z)
+  above e = yes-nonNeg {z = z} (ltZ-no {a = z} {b = pos 0} (subst (λ (t : Bool). T (not t)) (sym (simp (toZ-ofZ f) at e)) tt))
+
+add-result : tie.Need-add-result
+add-result c =
+    let f = c .before .fits .number in
+    let n = below (c .before .args .number) f (c .if1 .taken) in
+    simp (toZ-ofZ f) (n .up-fits)
+
+sub-result : tie.Need-sub-result
+sub-result c =
+    let f = c .before .fits .number in
+    let n = below (c .before .args .number) f (c .if1 .taken) in
+    simp (toZ-ofZ f, toZ-ofZ (n .up-fits), n .opposite) (record { sfits = f .sfits })
+
+cast-result : tie.Need-cast-result
+cast-result c =
+    let f = c .before .fits .number in
+    let n = below (c .before .args .number) f (c .if1 .taken) in
+    simp (toZ-ofZ f, toZ-ofZ (n .up-fits), n .opposite, toZ-pos w64 (f .sfits)) (tt, record { fits = omega (arith, f .sfits) })
+
+add-result-2 : tie.Need-add-result-2
+add-result-2 c =
+    let f = c .before .fits .number in
+    let n = below (c .before .args .number) f (c .if1 .taken) in
+    simp (toZ-ofZ f, toZ-ofZ (n .up-fits), n .opposite, toZ-pos w64 (f .sfits)) (record { fits = omega (arith, f .sfits) })
+
+cast-result-2 : tie.Need-cast-result-2
+cast-result-2 c =
+    let f = c .before .fits .number in
+    simp (toZ-ofZ f) (above (c .before .args .number) f (c .if1 .left), fits-natAbs tt f)
+
+returns : tie.Need-returns
+returns c =
+    let f = c .before .fits .number in
+    let n = below (c .before .args .number) f (c .if1 .taken) in
+    simp (toZ-ofZ f, toZ-ofZ (n .up-fits), n .opposite, toZ-pos w64 (f .sfits)) (n .size)
+
+returns-2 : tie.Need-returns-2
+returns-2 c = search needs
+
+pub magnitude-of-spec : {M : Type 1} → statement M
+magnitude-of-spec =
+    tie.close
+    (tie.spec add-result sub-result cast-result add-result-2 cast-result-2 returns returns-2)
