@@ -43,6 +43,23 @@ module _ (n p m : ℕ) where
   abbrev pub dayOfDate : ℕ
   dayOfDate = c .first (head c n + p) + (m - 1)
 
+  -- the date is one of the year's list, or not
+  pub listed-or-not : Dated c dayOfDate date ⊎ (¬ Dated c dayOfDate date)
+  listed-or-not = place (lt-or-ge p (monthsIn c n))
+    where
+      length : p < monthsIn c n → 0 < m → (lengthOf c (head c n + p) < m) ⊎ (m ≤ lengthOf c (head c n + p))
+          → Dated c dayOfDate date ⊎ (¬ Dated c dayOfDate date)
+      length h k (inl l) = inr (λ x. omega (arith, x .until))
+      length h k (inr l) = inl (record { listed = h; since = k; until = l; counted = refl })
+
+      day : p < monthsIn c n → (0 < m) ⊎ (m ≤ 0) → Dated c dayOfDate date ⊎ (¬ Dated c dayOfDate date)
+      day h (inl k) = length h k (lt-or-ge (lengthOf c (head c n + p)) m)
+      day h (inr k) = inr (λ x. omega (arith, x .since))
+
+      place : (p < monthsIn c n) ⊎ (monthsIn c n ≤ p) → Dated c dayOfDate date ⊎ (¬ Dated c dayOfDate date)
+      place (inl h) = day h (lt-or-ge 0 m)
+      place (inr h) = inr (λ x. omega (arith, x .listed))
+
   module _ (admitted : n ≤ lastYear) where
     -- a date of the year's list is answered
     pub back-answered : Dated c dayOfDate date → backReply shoushi n p m ≡ answer dayOfDate

@@ -1,3 +1,4 @@
 pub mod Reach
 pub mod ByTerm
 pub mod Back
+pub mod RoundTrip
