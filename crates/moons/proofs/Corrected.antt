@@ -27,17 +27,24 @@ quot-neg : (n m : ℕ) → quotZ (negℤ (pos n)) (pos m) ≡ negℤ (pos (n / m
 quot-neg zero m = simp zero-div
 quot-neg (suc n) m = refl
 
-is-corrected : (z : ℤ) (x : Signed) (m : ℕ) → Is z x → Is (quotZ (z *ℤ pos correctionFactor) (pos m)) (corrected x m)
+corrected-behind : (n : ℕ) (x : Signed) (m : ℕ) → Is (negsuc n) x → Is (quotZ (negsuc n *ℤ pos correctionFactor) (pos m)) (corrected x m)
 unfolding corrected
-is-corrected (negsuc n) x m h =
+corrected-behind n x m h =
     let none : x .ahead - x .behind ≡ 0 = omega arith in
     let left : x .behind - x .ahead ≡ suc n = omega arith in
     rw (quot-neg (suc n * correctionFactor) m)
     (is-neg (suc n * correctionFactor / m) (corrected x m) (simp (left, none, zero-div) (omega arith)))
-is-corrected (pos n) x m h =
+
+corrected-ahead : (n : ℕ) (x : Signed) (m : ℕ) → Is (pos n) x → Is (quotZ (pos n *ℤ pos correctionFactor) (pos m)) (corrected x m)
+unfolding corrected
+corrected-ahead n x m h =
     let left : x .ahead - x .behind ≡ n = omega arith in
     let none : x .behind - x .ahead ≡ 0 = omega arith in
     simp (left, none, zero-div) (omega arith)
+
+is-corrected : (z : ℤ) (x : Signed) (m : ℕ) → Is z x → Is (quotZ (z *ℤ pos correctionFactor) (pos m)) (corrected x m)
+is-corrected (pos n) x m h = corrected-ahead n x m h
+is-corrected (negsuc n) x m h = corrected-behind n x m h
 
 unfoldable pub difference : ℕ → ℕ → ℤ
 difference s a = integer (solar s) -ℤ integer (lunar a)
