@@ -1,4 +1,5 @@
 pub mod Cases
+pub mod Below
 pub mod Integers
 pub mod Evaluation
 pub mod NearerEnd
@@ -6,4 +7,5 @@ pub mod Sizes
 pub mod Cubic
 pub mod Table
 pub mod MotionRows
+pub mod Rows
 pub mod Unique
