@@ -75,7 +75,9 @@ held z h = toZ-ofZ {w = w64} {z = z} (record { sfits = h })
 
 pub opposite : (n : ℕ) → pos 0 -ℤ pos n ≡ negℤ (pos n)
 opposite zero = refl
-opposite (suc n) = is-unique (pos 0 -ℤ pos (suc n)) (negsuc n) (behindBy (suc n)) (is-subℕ 0 (suc n) (behindBy (suc n)) (omega arith)) (omega arith)
+opposite (suc n) =
+    let x = behindBy (suc n) in
+    is-unique (pos 0 -ℤ pos (suc n)) (negsuc n) x (is-subℕ 0 (suc n) x (omega arith)) (omega arith)
 
 pub opposite-mag : (n : ℕ) → mag (negℤ (pos n)) ≤ n
 opposite-mag zero = omega arith

@@ -1,4 +1,4 @@
-pub mod Cases
+pub mod Below
 pub mod Integers
 pub mod Evaluation
 pub mod NearerEnd
@@ -7,4 +7,5 @@ pub mod Cubic
 pub mod Table
 pub mod MotionRows
 pub mod LawStep
+pub mod Rows
 pub mod Unique

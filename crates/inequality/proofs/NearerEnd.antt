@@ -9,7 +9,7 @@ use Rattle.inequality.specs.Law.{lawMoon, law, exact}
 use Rattle.inequality.specs.Evaluation.{reach, fromNearerEnd}
 use Rattle.inequality.specs.Lunar.{middle, end, lunarMagnitude}
 use Rattle.inequality.specs.Motion.{wholeLaw}
-use Rattle.inequality.proofs.Cases.{if-≤, if-through}
+use Rattle.measure.proofs.Choice.{if-le, if-through}
 
 pub nearer-le : (n m : ℕ) → fromNearerEnd n m ≤ m
 unfolding fromNearerEnd

@@ -10,7 +10,7 @@ use Rattle.inequality.specs.Signed.{Signed}
 use Rattle.inequality.specs.Solar.{fastLimit, slowLimit, fastAt, slowAt, solar}
 use Rattle.inequality.specs.Lunar.{middle, end, limits, lunarMagnitude, lunar}
 use Rattle.inequality.specs.Motion.{wholeLaw}
-use Rattle.inequality.proofs.Cases.{if-≤, if-<}
+use Rattle.measure.proofs.Choice.{if-le, if-lt}
 use Rattle.inequality.proofs.Evaluation.{law-le, exact-le}
 use Rattle.inequality.proofs.NearerEnd.{nearer-le, whole-nearer}
 
@@ -53,10 +53,10 @@ Within n x = x .ahead + x .behind ≤ n
 pub solar-size : (s : ℕ) → solar s .ahead + solar s .behind ≤ solarSize
 unfolding solar
 solar-size s =
-    if-< (Within solarSize) s halfYear _ _ (λ h. omega (arith, slow-le s)) (λ h. omega (arith, fast-le (s - halfYear)))
+    if-lt (Within solarSize) _ _ s halfYear (λ h. omega (arith, slow-le s)) (λ h. omega (arith, fast-le (s - halfYear)))
 
 pub lunar-size : (a : ℕ) → lunar a .ahead + lunar a .behind ≤ lunarSize
 unfolding lunar
 lunar-size a =
-    if-< (Within lunarSize) a anomalisticHalf _ _ (λ h. omega (arith, magnitude-le (limits a)))
+    if-lt (Within lunarSize) _ _ a anomalisticHalf (λ h. omega (arith, magnitude-le (limits a)))
     (λ h. omega (arith, magnitude-le (limits (a - anomalisticHalf))))

@@ -24,6 +24,7 @@ minus x y = record { ahead = x .ahead + y .behind; behind = x .behind + y .ahead
 unfoldable pub integer : Signed → ℤ
 integer x = subℕ (x .ahead) (x .behind)
 
+-- a reply with its integer
 abbrev pub asInteger : Reply Signed → Reply ℤ
 asInteger (answer x) = answer (integer x)
 asInteger (refused k) = refused k

@@ -119,6 +119,7 @@ const FAST_LIMIT: u64 = 8_890_922_500;
 
 const SLOW_LIMIT: u64 = HALF_YEAR - FAST_LIMIT;
 
+// The magnitude at a time in the fast half: by law A as far as the limit, then by law B from the end.
 fn fast(time: u64) -> u64
     requires { ⌜ time ≤ halfYear ⌝ }
     ensures { λ r. ⌜ r ≡ fastAt time ⌝ }
@@ -130,6 +131,7 @@ fn fast(time: u64) -> u64
     }
 }
 
+// And in the slow half.
 fn slow(time: u64) -> u64
     requires { ⌜ time ≤ halfYear ⌝ }
     ensures { λ r. ⌜ r ≡ slowAt time ⌝ }
@@ -141,7 +143,7 @@ fn slow(time: u64) -> u64
     }
 }
 
-// The magnitude at a time in either half.
+// The magnitude of the lunar inequality at a time in either half.
 fn magnitude(time: u64) -> u64
     requires { ⌜ time ≤ anomalisticHalf ⌝ }
     ensures { λ r. ⌜ r ≡ lunarMagnitude (limits time) ⌝ }
@@ -152,6 +154,7 @@ fn magnitude(time: u64) -> u64
     )
 }
 
+// A positive number, and a negative one.
 fn ahead(magnitude: u64) -> i64
     requires { ⌜ magnitude ≤ day * day ⌝ }
     ensures { λ r. ⌜ r ≡ integer (aheadBy magnitude) ⌝ }

@@ -40,3 +40,8 @@ module _ {A : Type 0} (P : A → Type 0) (a b : A) where
 
   pub if-lt : (m n : ℕ) → (m < n → P a) → (n ≤ m → P b) → P (if m <? n then a else b)
   if-lt m n below above = if-cases (m <? n) (λ e. below (ltb-true m n e)) (λ e. above (ltb-false m n e))
+
+-- a function of a choice
+pub if-through : {A B : Type 0} (f : A → B) (t : Bool) (a b : A) → f (if t then a else b) ≡ (if t then f a else f b)
+if-through f true a b = refl
+if-through f false a b = refl

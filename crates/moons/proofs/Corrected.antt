@@ -1,5 +1,5 @@
--- The correction as one number with a sign: the quotient that a program takes is the definition's, and small; and the true moon is the
--- mean moon with it added.
+-- The correction as one number with a sign: the quotient that a program takes is the definition's, and small; and the true moon is
+-- the mean moon with it added.
 -- Assumes nothing.
 use mathlib.Core.Path.{_≡_, _∙_, refl, sym, ap, subst}
 use Prim.Native.Nat.{ℕ, zero, suc, _+_, _*_, _-_, _/_, _^_, _≤_, _<_}
@@ -17,7 +17,8 @@ use Rattle.inequality.specs.Lunar.{lunar, anomaly}
 use Rattle.inequality.specs.Motion.{motion}
 use Rattle.inequality.proofs.Integers.{Is, is-subℕ, is-neg, is-integer, integer-is, integer-ahead, integer-minus, integer-mag, opposite-mag, held}
 use Rattle.inequality.proofs.Sizes.{solarSize, lunarSize, solar-size, lunar-size}
-use Rattle.inequality.proofs.MotionRows.{leastMotion, motion-least, motion-most}
+use Rattle.inequality.proofs.MotionRows.{leastMotion}
+use Rattle.inequality.proofs.Rows.{motion-least, motion-most}
 use Rattle.moons.specs.Lunation.{Counted, mean}
 use Rattle.moons.specs.TrueMoon.{correctionFactor, corrected, correction, correctionOf, moved, trueMoon}
 use Rattle.moons.proofs.Times.{mean-least, mean-most}
@@ -27,17 +28,26 @@ quot-neg : (n m : ℕ) → quotZ (negℤ (pos n)) (pos m) ≡ negℤ (pos (n / m
 quot-neg zero m = simp zero-div
 quot-neg (suc n) m = refl
 
-is-corrected : (z : ℤ) (x : Signed) (m : ℕ) → Is z x → Is (quotZ (z *ℤ pos correctionFactor) (pos m)) (corrected x m)
+corrected-behind : (n : ℕ) (x : Signed) (m : ℕ) → Is (negsuc n) x
+    → Is (quotZ (negsuc n *ℤ pos correctionFactor) (pos m)) (corrected x m)
 unfolding corrected
-is-corrected (negsuc n) x m h =
+corrected-behind n x m h =
     let none : x .ahead - x .behind ≡ 0 = omega arith in
     let left : x .behind - x .ahead ≡ suc n = omega arith in
     rw (quot-neg (suc n * correctionFactor) m)
     (is-neg (suc n * correctionFactor / m) (corrected x m) (simp (left, none, zero-div) (omega arith)))
-is-corrected (pos n) x m h =
+
+corrected-ahead : (n : ℕ) (x : Signed) (m : ℕ) → Is (pos n) x
+    → Is (quotZ (pos n *ℤ pos correctionFactor) (pos m)) (corrected x m)
+unfolding corrected
+corrected-ahead n x m h =
     let left : x .ahead - x .behind ≡ n = omega arith in
     let none : x .behind - x .ahead ≡ 0 = omega arith in
     simp (left, none, zero-div) (omega arith)
+
+is-corrected : (z : ℤ) (x : Signed) (m : ℕ) → Is z x → Is (quotZ (z *ℤ pos correctionFactor) (pos m)) (corrected x m)
+is-corrected (pos n) x m h = corrected-ahead n x m h
+is-corrected (negsuc n) x m h = corrected-behind n x m h
 
 unfoldable pub difference : ℕ → ℕ → ℤ
 difference s a = integer (solar s) -ℤ integer (lunar a)
@@ -105,7 +115,8 @@ read z = toZ w64 (ofZ w64 z)
 read-as : {z w : ℤ} → z ≡ w → SFits w64 w → read z ≡ w
 read-as e f = ap read e ∙ toZ-ofZ f
 
-module _ (s a : ℕ) (x y : ℤ) (sun : x ≡ integer (solar s)) (moon : y ≡ integer (lunar a)) (x-fits : mag x < 2 ^ 63) (y-fits : mag y < 2 ^ 63) where
+module _ (s a : ℕ) (x y : ℤ) (sun : x ≡ integer (solar s)) (moon : y ≡ integer (lunar a))
+    (x-fits : mag x < 2 ^ 63) (y-fits : mag y < 2 ^ 63) where
   pub difference-read : read x -ℤ read y ≡ difference s a
   unfolding difference
   difference-read = rw (held x x-fits, held y y-fits, sun, moon)
@@ -118,7 +129,8 @@ module _ (s a : ℕ) (x y : ℤ) (sun : x ≡ integer (solar s)) (moon : y ≡ i
     quotient-read =
         rw (read-as product-read (product-fits s a), rate, toZ-ofZ (motion-fits a)) (integer-correction s a)
 
-    pub correction-read : read (quotZ (read (read (read x -ℤ read y) *ℤ pos correctionFactor)) (toZ w64 m)) ≡ integer (correction s a)
+    pub correction-read : read (quotZ (read (read (read x -ℤ read y) *ℤ pos correctionFactor)) (toZ w64 m))
+        ≡ integer (correction s a)
     correction-read = read-as quotient-read (correction-fits s a)
 
 -- ---- the true moon

@@ -9,13 +9,16 @@ use Rattle.measure.specs.Epoch.{Epoch, meanStart}
 abbrev pub lastLunation : ℕ
 lastLunation = 12_367
 
+abbrev pub lastQuarter : ℕ
+lastQuarter = 3
+
 -- a question about quarter q of lunation l, with its answer
 abbrev pub ofQuarter : {A : Type 0} → ℕ → ℕ → A → Reply A
-ofQuarter l q it = refuseIf (lastLunation <? l) outside (refuseIf (3 <? q) outside (answer it))
+ofQuarter l q it = refuseIf (lastLunation <? l) outside (refuseIf (lastQuarter <? q) outside (answer it))
 
--- what the months count with, inside: three lunations more
+-- a caller that counts lunations itself goes three further: the last month's end, and a month on either side of the one it seeks
 abbrev pub Counted : ℕ → ℕ → Type 0
-Counted l q = (l ≤ lastLunation + 3) × (q ≤ 3)
+Counted l q = (l ≤ lastLunation + 3) × (q ≤ lastQuarter)
 
 -- quarter 0 is the new moon, and 2 the full moon
 unfoldable pub mean : Epoch → ℕ → ℕ → ℕ

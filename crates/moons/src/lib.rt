@@ -20,7 +20,7 @@ ghost use Rattle.measure.specs.Epoch.{shoushi};
 ghost use Rattle.inequality.specs.Signed.{integer, asInteger, signedSaid};
 ghost use Rattle.inequality.specs.Solar.{solarTime};
 ghost use Rattle.inequality.specs.Lunar.{anomaly};
-ghost use Rattle.moons.specs.Lunation.{lastLunation, Counted, mean, meanReply};
+ghost use Rattle.moons.specs.Lunation.{lastLunation, lastQuarter, Counted, mean, meanReply};
 ghost use Rattle.moons.specs.TrueMoon.{correction, correctionOf, trueMoon, solarReply, lunarReply, motionReply, correctionReply, trueReply};
 
 pub const LAST_LUNATION: u64 = 12_367;
@@ -89,8 +89,7 @@ pub fn true_moon(l: u64, q: u64) -> Answer
     Answer::Number(true_time(l, q))
 }
 
-// The true moon's running time, for a caller that counts lunations itself: a month's end and the next year's head lie past the last
-// lunation that is asked for.
+// The true moon's running time, for a caller that counts lunations itself. No question of the calendar's.
 pub fn true_time(l: u64, q: u64) -> u64
     requires { ⌜ Counted l q ⌝ }
     ensures { λ r. ⌜ r ≡ trueMoon shoushi l q ⌝ }
@@ -98,8 +97,9 @@ pub fn true_time(l: u64, q: u64) -> u64
     (mean_time(l, q) as i64 + correction_of(l, q)) as u64
 }
 
+// Whether the lunation or the quarter is past its last.
 fn outside(l: u64, q: u64) -> bool
-    ensures { λ r. ⌜ r ≡ ((lastLunation <? l) || (3 <? q)) ⌝ }
+    ensures { λ r. ⌜ r ≡ ((lastLunation <? l) || (lastQuarter <? q)) ⌝ }
 {
     LAST_LUNATION < l || LAST_QUARTER < q
 }
@@ -107,6 +107,7 @@ fn outside(l: u64, q: u64) -> bool
 // The mean new moon of lunation 0.
 pub const MEAN_START: u64 = SOLSTICE_EPOCH - LEAP_EPOCH;
 
+// The mean moon's running time.
 fn mean_time(l: u64, q: u64) -> u64
     requires { ⌜ Counted l q ⌝ }
     ensures { λ r. ⌜ r ≡ mean shoushi l q ⌝ }
@@ -116,6 +117,7 @@ fn mean_time(l: u64, q: u64) -> u64
 
 const SOLAR_START: u64 = HALF_YEAR - LEAP_EPOCH;
 
+// The time in the solar year, which the slow half begins.
 fn solar_time(l: u64, q: u64) -> u64
     requires { ⌜ Counted l q ⌝ }
     ensures { λ r. ⌜ r ≡ solarTime shoushi l q ⌝ }
@@ -127,6 +129,7 @@ const ANOMALY_START: u64 = (ANOMALY_EPOCH + 2 * ANOMALISTIC_MONTH - LEAP_EPOCH) 
 
 const ANOMALY_ADVANCE: u64 = MONTH - ANOMALISTIC_MONTH;
 
+// The time in the anomalistic month, which the quick half begins.
 fn anomaly(l: u64, q: u64) -> u64
     requires { ⌜ Counted l q ⌝ }
     ensures { λ r. ⌜ r ≡ anomaly shoushi l q ⌝ }
@@ -134,6 +137,7 @@ fn anomaly(l: u64, q: u64) -> u64
     (ANOMALY_START + l * ANOMALY_ADVANCE + q * QUARTER_STEP) % ANOMALISTIC_MONTH
 }
 
+// The correction of a quarter.
 fn correction_of(l: u64, q: u64) -> i64
     requires { ⌜ Counted l q ⌝ }
     ensures { λ r. ⌜ r ≡ integer (correctionOf shoushi l q) ⌝ }
@@ -143,7 +147,7 @@ fn correction_of(l: u64, q: u64) -> i64
 
 const CORRECTION_FACTOR: i64 = 8_200_000;
 
-// The quotient's rest is dropped, and the magnitude's with it.
+// The correction at a solar time and an anomaly. A quotient of signed numbers drops its rest toward 0.
 fn correction_at(time: u64, anomaly: u64) -> i64
     requires { ⌜ (time < year) × (anomaly < anomalisticMonth) ⌝ }
     ensures { λ r. ⌜ r ≡ integer (correction time anomaly) ⌝ }

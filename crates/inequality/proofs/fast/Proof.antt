@@ -1,7 +1,7 @@
 -- `inequality::fast` meets its contract. Assumes nothing.
 use borrow.Author.Needs.{needs}
 use borrow.Author.Tests.{le-leb, lt-leb}
-use Rattle.inequality.specs.Solar.{fastAt}
+use Rattle.inequality.specs.Solar.{fastLimit, fastAt}
 use Rattle.inequality.proofs.fast.Statement.{statement}
 use Rattle.inequality.proofs.fast.Tie as tie
 
@@ -16,11 +16,11 @@ law-at-requires-2 c κs = search needs
 
 returns : tie.Need-returns
 unfolding fastAt
-returns c = simp (le-leb _ _ (c .before .if1 .taken)) (c .law-at .ensures)
+returns c = simp (le-leb _ fastLimit (c .before .if1 .taken)) (c .law-at .ensures)
 
 returns-2 : tie.Need-returns-2
 unfolding fastAt
-returns-2 c = simp (lt-leb _ _ (c .before .if1 .left)) (c .law-at2 .ensures)
+returns-2 c = simp (lt-leb _ fastLimit (c .before .if1 .left)) (c .law-at2 .ensures)
 
 pub fast-spec : {M : Type 1} → statement M
 fast-spec = tie.close (tie.spec law-at-requires sub-law-at law-at-requires-2 returns returns-2)

@@ -4,7 +4,7 @@ use native.Mathlib.Omega.{arith}
 use borrow.Author.Needs.{needs}
 use Rattle.inequality.specs.Motion.{motionAt}
 use Rattle.inequality.proofs.Sizes.{whole-law-le}
-use Rattle.inequality.proofs.MotionRows.{quick-rises, tardy-rises, motion-quick, motion-tardy}
+use Rattle.inequality.proofs.Rows.{quick-rises, tardy-rises, motion-quick, motion-tardy}
 use Rattle.inequality.proofs.motion.Statement.{statement}
 use Rattle.inequality.proofs.motion.Tie as tie
 

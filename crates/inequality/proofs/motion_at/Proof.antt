@@ -2,7 +2,7 @@
 use borrow.Author.Needs.{needs}
 use borrow.Author.Tests.{le-leb, lt-leb}
 use Rattle.inequality.specs.Motion.{motionAtReply}
-use Rattle.inequality.proofs.MotionRows.{quick-row, tardy-row}
+use Rattle.inequality.proofs.Rows.{quick-row, tardy-row}
 use Rattle.inequality.proofs.motion_at.Statement.{statement}
 use Rattle.inequality.proofs.motion_at.Tie as tie
 

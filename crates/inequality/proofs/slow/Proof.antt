@@ -1,7 +1,7 @@
 -- `inequality::slow` meets its contract. Assumes nothing.
 use borrow.Author.Needs.{needs}
 use borrow.Author.Tests.{le-leb, lt-leb}
-use Rattle.inequality.specs.Solar.{slowAt}
+use Rattle.inequality.specs.Solar.{slowLimit, slowAt}
 use Rattle.inequality.proofs.slow.Statement.{statement}
 use Rattle.inequality.proofs.slow.Tie as tie
 
@@ -16,11 +16,11 @@ law-at-requires-2 c κs = search needs
 
 returns : tie.Need-returns
 unfolding slowAt
-returns c = simp (le-leb _ _ (c .before .if1 .taken)) (c .law-at .ensures)
+returns c = simp (le-leb _ slowLimit (c .before .if1 .taken)) (c .law-at .ensures)
 
 returns-2 : tie.Need-returns-2
 unfolding slowAt
-returns-2 c = simp (lt-leb _ _ (c .before .if1 .left)) (c .law-at2 .ensures)
+returns-2 c = simp (lt-leb _ slowLimit (c .before .if1 .left)) (c .law-at2 .ensures)
 
 pub slow-spec : {M : Type 1} → statement M
 slow-spec = tie.close (tie.spec law-at-requires sub-law-at law-at-requires-2 returns returns-2)

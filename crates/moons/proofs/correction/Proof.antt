@@ -15,17 +15,20 @@ outside-requires c κs = search needs
 returns : tie.Need-returns
 unfolding correctionReply
 returns c =
-    let a = c .before .before .args in sym (ap asInteger (refused-past (a .l) (a .q) _ (sym (c .before .outside .ensures) ∙ c .if1 .taken)))
+    let a = c .before .before .args in
+    sym (ap asInteger (refused-past (a .l) (a .q) (c .before .outside .ensures) _ (c .if1 .taken)))
 
 correction-of-requires : tie.Need-correction-of-requires
-correction-of-requires c κs = let a = c .before .before .args in counted (a .l) (a .q) (sym (c .before .outside .ensures) ∙ c .if1 .left)
+correction-of-requires c κs =
+    let a = c .before .before .args in counted (a .l) (a .q) (c .before .outside .ensures) (c .if1 .left)
 
 returns-2 : tie.Need-returns-2
 unfolding correctionReply
 returns-2 c =
-    let a = c .before .before .before .args in
+    let b = c .before in
+    let a = b .before .before .args in
     ap answer (held (c .correction-of .result) (c .correction-of .ok) ∙ c .correction-of .ensures)
-    ∙ sym (ap asInteger (answered (a .l) (a .q) _ (sym (c .before .before .outside .ensures) ∙ c .before .if1 .left)))
+    ∙ sym (ap asInteger (answered (a .l) (a .q) (b .before .outside .ensures) _ (b .if1 .left)))
 
 pub correction-spec : {M : Type 1} → statement M
 correction-spec = tie.close (tie.spec outside-requires returns correction-of-requires returns-2)

@@ -20,10 +20,12 @@ outside-requires c κs = search needs
 returns : tie.Need-returns
 unfolding lunarReply
 returns c =
-    let a = c .before .before .args in sym (ap asInteger (refused-past (a .l) (a .q) _ (sym (c .before .outside .ensures) ∙ c .if1 .taken)))
+    let a = c .before .before .args in
+    sym (ap asInteger (refused-past (a .l) (a .q) (c .before .outside .ensures) _ (c .if1 .taken)))
 
 anomaly-requires : tie.Need-anomaly-requires
-anomaly-requires c κs = let a = c .before .before .args in counted (a .l) (a .q) (sym (c .before .outside .ensures) ∙ c .if1 .left)
+anomaly-requires c κs =
+    let a = c .before .before .args in counted (a .l) (a .q) (c .before .outside .ensures) (c .if1 .left)
 
 lunar-requires : tie.Need-lunar-requires
 lunar-requires c κs =
@@ -37,7 +39,7 @@ returns-2 c =
     ap answer
     (held (c .lunar .result) (c .lunar .ok) ∙ c .lunar .ensures
     ∙ ap (λ (n : ℕ). integer (lunar n)) (c .before .anomaly .ensures))
-    ∙ sym (ap asInteger (answered (a .l) (a .q) _ (sym (b .before .outside .ensures) ∙ b .if1 .left)))
+    ∙ sym (ap asInteger (answered (a .l) (a .q) (b .before .outside .ensures) _ (b .if1 .left)))
 
 pub lunar-spec : {M : Type 1} → statement M
 lunar-spec = tie.close (tie.spec outside-requires returns anomaly-requires lunar-requires returns-2)

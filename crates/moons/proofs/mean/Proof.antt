@@ -13,16 +13,20 @@ outside-requires c κs = search needs
 returns : tie.Need-returns
 unfolding meanReply
 returns c =
-    let a = c .before .before .args in sym (refused-past (a .l) (a .q) _ (sym (c .before .outside .ensures) ∙ c .if1 .taken))
+    let a = c .before .before .args in
+    sym (refused-past (a .l) (a .q) (c .before .outside .ensures) _ (c .if1 .taken))
 
 mean-time-requires : tie.Need-mean-time-requires
-mean-time-requires c κs = let a = c .before .before .args in counted (a .l) (a .q) (sym (c .before .outside .ensures) ∙ c .if1 .left)
+mean-time-requires c κs =
+    let a = c .before .before .args in counted (a .l) (a .q) (c .before .outside .ensures) (c .if1 .left)
 
 returns-2 : tie.Need-returns-2
 unfolding meanReply
 returns-2 c =
-    let a = c .before .before .before .args in
-    ap answer (c .mean-time .ensures) ∙ sym (answered (a .l) (a .q) _ (sym (c .before .before .outside .ensures) ∙ c .before .if1 .left))
+    let b = c .before in
+    let a = b .before .before .args in
+    ap answer (c .mean-time .ensures)
+    ∙ sym (answered (a .l) (a .q) (b .before .outside .ensures) _ (b .if1 .left))
 
 pub mean-spec : {M : Type 1} → statement M
 mean-spec = tie.close (tie.spec outside-requires returns mean-time-requires returns-2)

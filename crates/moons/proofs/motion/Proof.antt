@@ -17,10 +17,12 @@ outside-requires c κs = search needs
 returns : tie.Need-returns
 unfolding motionReply
 returns c =
-    let a = c .before .before .args in sym (refused-past (a .l) (a .q) _ (sym (c .before .outside .ensures) ∙ c .if1 .taken))
+    let a = c .before .before .args in
+    sym (refused-past (a .l) (a .q) (c .before .outside .ensures) _ (c .if1 .taken))
 
 anomaly-requires : tie.Need-anomaly-requires
-anomaly-requires c κs = let a = c .before .before .args in counted (a .l) (a .q) (sym (c .before .outside .ensures) ∙ c .if1 .left)
+anomaly-requires c κs =
+    let a = c .before .before .args in counted (a .l) (a .q) (c .before .outside .ensures) (c .if1 .left)
 
 motion-requires : tie.Need-motion-requires
 motion-requires c κs =
@@ -32,7 +34,7 @@ returns-2 c =
     let b = c .before .before in
     let a = b .before .before .args in
     ap answer (c .motion .ensures ∙ ap motion (c .before .anomaly .ensures))
-    ∙ sym (answered (a .l) (a .q) _ (sym (b .before .outside .ensures) ∙ b .if1 .left))
+    ∙ sym (answered (a .l) (a .q) (b .before .outside .ensures) _ (b .if1 .left))
 
 pub motion-spec : {M : Type 1} → statement M
 motion-spec = tie.close (tie.spec outside-requires returns anomaly-requires motion-requires returns-2)

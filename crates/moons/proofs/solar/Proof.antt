@@ -20,10 +20,12 @@ outside-requires c κs = search needs
 returns : tie.Need-returns
 unfolding solarReply
 returns c =
-    let a = c .before .before .args in sym (ap asInteger (refused-past (a .l) (a .q) _ (sym (c .before .outside .ensures) ∙ c .if1 .taken)))
+    let a = c .before .before .args in
+    sym (ap asInteger (refused-past (a .l) (a .q) (c .before .outside .ensures) _ (c .if1 .taken)))
 
 solar-time-requires : tie.Need-solar-time-requires
-solar-time-requires c κs = let a = c .before .before .args in counted (a .l) (a .q) (sym (c .before .outside .ensures) ∙ c .if1 .left)
+solar-time-requires c κs =
+    let a = c .before .before .args in counted (a .l) (a .q) (c .before .outside .ensures) (c .if1 .left)
 
 solar-requires : tie.Need-solar-requires
 solar-requires c κs =
@@ -37,7 +39,7 @@ returns-2 c =
     ap answer
     (held (c .solar .result) (c .solar .ok) ∙ c .solar .ensures
     ∙ ap (λ (n : ℕ). integer (solar n)) (c .before .solar-time .ensures))
-    ∙ sym (ap asInteger (answered (a .l) (a .q) _ (sym (b .before .outside .ensures) ∙ b .if1 .left)))
+    ∙ sym (ap asInteger (answered (a .l) (a .q) (b .before .outside .ensures) _ (b .if1 .left)))
 
 pub solar-spec : {M : Type 1} → statement M
 solar-spec = tie.close (tie.spec outside-requires returns solar-time-requires solar-requires returns-2)

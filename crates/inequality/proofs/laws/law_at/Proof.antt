@@ -1,9 +1,9 @@
 -- `inequality::laws::law_at` meets its contract. Assumes nothing.
 use native.Mathlib.Omega.{arith}
+use borrow.Author.Needs.{needs}
 use Rattle.inequality.specs.Law.{taken, law}
 use Rattle.inequality.specs.Evaluation.{lawWith}
 use Rattle.inequality.proofs.Evaluation.{growth-le, taken-le}
-use borrow.Author.Needs.{needs}
 use Rattle.inequality.proofs.laws.law_at.Statement.{statement}
 use Rattle.inequality.proofs.laws.law_at.Tie as tie
 
@@ -17,17 +17,20 @@ mul-over-day-2 : tie.Need-mul-over-day-2
 mul-over-day-2 c = search needs
 
 add-over-day : tie.Need-add-over-day
-add-over-day c = let b = c .before .before .before in omega (arith, growth-le (lawWith (b .args .c)) (b .args .t) (b .pre))
+add-over-day c =
+    let b = c .before .before .before in omega (arith, growth-le (lawWith (b .args .c)) (b .args .t) (b .pre))
 
 over-day-requires-2 : tie.Need-over-day-requires-2
-over-day-requires-2 c κs = let b = c .before .before .before in omega (arith, growth-le (lawWith (b .args .c)) (b .args .t) (b .pre))
+over-day-requires-2 c κs =
+    let b = c .before .before .before in omega (arith, growth-le (lawWith (b .args .c)) (b .args .t) (b .pre))
 
 mul-over-day-3 : tie.Need-mul-over-day-3
 mul-over-day-3 c = search needs
 
 sub-over-day : tie.Need-sub-over-day
 unfolding taken
-sub-over-day c = let b = c .before .before .before .before .before in
+sub-over-day c =
+    let b = c .before .before .before .before .before in
     rw (c .before .over-day2 .ensures, c .before .before .before .over-day .ensures)
     (taken-le (lawWith (b .args .c)) (b .args .t) (b .pre))
 

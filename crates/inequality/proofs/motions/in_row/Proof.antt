@@ -1,9 +1,10 @@
--- `inequality::motions::in_row` meets its contract. Assumes nothing.
+-- `inequality::motions::in_row` meets its contract: the numbers of the table are the rule's values, all rows computed in one test.
+-- Assumes nothing.
+use borrow.Author.Needs.{needs}
 use Rattle.measure.specs.Row.{listed}
 use Rattle.inequality.specs.Law.{exact}
 use Rattle.inequality.specs.Motion.{wholeLaw, motionAt, rows, motionInRow}
 use Rattle.inequality.proofs.Table.{at}
-use borrow.Author.Needs.{needs}
 use Rattle.inequality.proofs.motions.in_row.Statement.{statement}
 use Rattle.inequality.proofs.motions.in_row.Tie as tie
 
