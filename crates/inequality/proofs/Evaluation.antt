@@ -1,4 +1,4 @@
--- Where a law is evaluated, each of its steps is bounded, and the law by its first coefficient; and the exact law with fewer products.
+-- Where a law is evaluated, each of its steps is bounded; and the exact law with fewer products.
 -- Assumes nothing.
 use mathlib.Core.Path.{_≡_, ap}
 use Prim.Native.Nat.{ℕ, _+_, _*_, _-_, _/_, _≤_}
@@ -25,11 +25,6 @@ module _ (c : Law) (t : ℕ) (h : Evaluated c t) where
         product (c .second * fine + growth c t) t (c .second * fine + c .third * fine * reach) (reach * day)
             (omega (arith, growth-le)) (h .2),
       )
-
-  pub law-le : law c t * day ≤ c .first * t
-  unfolding law
-  law-le =
-      omega (arith, product (c .first * fine - taken c t) t (c .first * fine) t (omega arith) (omega arith))
 
 module _ (c : Law) (k : ℕ) (h : (c .second + c .third * reach) * reach ≤ c .first) (r : k ≤ reach) where
   pub inner-le : k * (c .second + k * c .third) ≤ c .first

@@ -13,7 +13,7 @@ use Rattle.measure.proofs.Choice.{if-le, if-through}
 
 pub nearer-le : (n m : ℕ) → fromNearerEnd n m ≤ m
 unfolding fromNearerEnd
-nearer-le n m = if-≤ (λ (v : ℕ). v ≤ m) n m _ _ (λ h. h) (λ h. omega arith)
+nearer-le n m = if-le (λ (v : ℕ). v ≤ m) _ _ n m (λ h. h) (λ h. omega arith)
 
 -- a whole limit so counted is within a law's reach
 pub nearer-reach : (n : ℕ) {k : ℕ} → k ≡ fromNearerEnd n middle → k ≤ reach

@@ -13,7 +13,7 @@ use Rattle.inequality.proofs.MotionRows.{leastMotion, greatestMotion, r
 
 pub row-lt : (a : ℕ) → rowOf a < rows
 unfolding rowOf
-row-lt a = if-< (λ (r : ℕ). r < rows) a anomalisticHalf _ _ (λ h. omega arith) (λ h. omega arith)
+row-lt a = if-lt (λ (r : ℕ). r < rows) _ _ a anomalisticHalf (λ h. omega arith) (λ h. omega arith)
 
 pub quick-row : (k : ℕ) → k < end → motionInRow k ≡ motionAt quick k
 unfolding motionInRow

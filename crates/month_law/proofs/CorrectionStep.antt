@@ -12,13 +12,15 @@ use Rattle.inequality.specs.Signed.{Signed, aheadBy, minus}
 use Rattle.inequality.specs.Solar.{solar}
 use Rattle.inequality.specs.Lunar.{lunar, anomalyAdvance}
 use Rattle.inequality.specs.Motion.{motion}
+use Rattle.inequality.proofs.Sizes.{Within, differenceSize, difference-size}
+use Rattle.inequality.proofs.MotionRows.{leastMotion, motionStep}
+use Rattle.inequality.proofs.Rows.{motion-least}
 use Rattle.moons.specs.TrueMoon.{corrected, correction}
-use Rattle.month_law.proofs.Signed.{Below, gap, gap-sym, gap-minus}
+use Rattle.moons.proofs.Quotient.{quotient, quotient-above, quotient-below, quotient-least, corrected-is}
+use Rattle.month_law.proofs.Signed.{gap, gap-sym, gap-minus}
 use Rattle.month_law.proofs.SolarStep.{mostSolarAdvance, solarStepBound, solar-step}
 use Rattle.month_law.proofs.LunarStep.{lunarStepBound, lunar-step}
-use Rattle.month_law.proofs.MotionStep.{leastMotion, motionStepBound, motion-least, motion-step}
-use Rattle.month_law.proofs.Quotient.{quotient, quotient-above, quotient-below, quotient-least, corrected-is}
-use Rattle.month_law.proofs.Size.{differenceSize, difference-small}
+use Rattle.month_law.proofs.MotionStep.{motion-step}
 
 -- how far solar less lunar moves
 abbrev differenceStep : ℕ
@@ -26,11 +28,11 @@ differenceStep = solarStepBound + lunarStepBound
 
 -- two magnitudes of one sign
 quotient-step : (x x' m m' : ℕ)
-    → x < differenceSize
+    → x ≤ differenceSize
     → x' ≤ x + differenceStep
     → leastMotion ≤ m
     → leastMotion ≤ m'
-    → m ≤ m' + motionStepBound
+    → m ≤ m' + motionStep
     → quotient x' m' ≤ quotient x m + monthDeficit
 quotient-step x x' m m' size step h h' near =
     omega (
@@ -53,13 +55,13 @@ quotients-sum x x' m m' sum h h' = omega (arith, quotient-least x m h, quotient-
 rises : (x y x' y' m m' : ℕ)
     → (x ≡ 0) ⊎ (y ≡ 0)
     → (x' ≡ 0) ⊎ (y' ≡ 0)
-    → x < differenceSize
-    → y' < differenceSize
+    → x ≤ differenceSize
+    → y' ≤ differenceSize
     → x' + y ≤ x + y' + differenceStep
     → leastMotion ≤ m
     → leastMotion ≤ m'
-    → m ≤ m' + motionStepBound
-    → m' ≤ m + motionStepBound
+    → m ≤ m' + motionStep
+    → m' ≤ m + motionStep
     → quotient x' m' + quotient y m ≤ quotient x m + quotient y' m' + monthDeficit
 rises x y x' y' m m' (inl x0) (inl x0') size size' step h h' near near' =
     omega (arith, quotient-least x' m' h', quotient-step y' y m' m size' (omega arith) h' h near')
@@ -74,8 +76,8 @@ one-part : (m n : ℕ) → (m - n ≡ 0) ⊎ (n - m ≡ 0)
 one-part m n = ⊎-elim (λ (l : m < n). inl (omega arith)) (λ (l : n ≤ m). inr (omega arith)) (lt-or-ge m n)
 
 -- any two differences and motions so near
-module _ (z z' : Signed) (m m' : ℕ) (size : Below differenceSize z) (size' : Below differenceSize z') (step : gap z z' ≤ differenceStep)
-    (h : leastMotion ≤ m) (h' : leastMotion ≤ m') (near : gap (aheadBy m) (aheadBy m') ≤ motionStepBound) where
+module _ (z z' : Signed) (m m' : ℕ) (size : Within differenceSize z) (size' : Within differenceSize z') (step : gap z z' ≤ differenceStep)
+    (h : leastMotion ≤ m) (h' : leastMotion ≤ m') (near : gap (aheadBy m) (aheadBy m') ≤ motionStep) where
   corrected-rises : corrected z' m' .ahead + corrected z m .behind
       ≤ corrected z m .ahead + corrected z' m' .behind + monthDeficit
   unfolding gap
@@ -90,12 +92,12 @@ module _ (z z' : Signed) (m m' : ℕ) (size : Below differenceSize z) (size' : B
       )
 
 corrected-step : (z z' : Signed) (m m' : ℕ)
-    → Below differenceSize z
-    → Below differenceSize z'
+    → Within differenceSize z
+    → Within differenceSize z'
     → gap z z' ≤ differenceStep
     → leastMotion ≤ m
     → leastMotion ≤ m'
-    → gap (aheadBy m) (aheadBy m') ≤ motionStepBound
+    → gap (aheadBy m) (aheadBy m') ≤ motionStep
     → gap (corrected z m) (corrected z' m') ≤ monthDeficit
 unfolding gap
 corrected-step z z' m m' size size' step h h' near =
@@ -113,6 +115,6 @@ correction-step s e a hs he ha =
     let s' = (s + e) % year in
     let a' = (a + anomalyAdvance) % anomalisticMonth in
     corrected-step (minus (solar s) (lunar a)) (minus (solar s') (lunar a')) (motion a) (motion a')
-    (difference-small s a) (difference-small s' a')
+    (difference-size s a) (difference-size s' a')
     (omega (arith, gap-minus (solar s) (lunar a) (solar s') (lunar a'), solar-step s e hs he, lunar-step a ha))
     (motion-least a) (motion-least a') (motion-step a ha)

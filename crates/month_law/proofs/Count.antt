@@ -59,12 +59,6 @@ module _ (test : ℕ → Bool) where
       ⊎-elim (λ (e : test p ≡ true). absurd (omega (arith, count-past p k h e))) (λ (e : test p ≡ false). e)
       (passes-or-fails (test p))
 
-  -- where all are counted each passes
-  pub all-pass : (k p : ℕ) → count test k ≡ k → p < k → test p ≡ true
-  all-pass k p z h =
-      ⊎-elim (λ (e : test p ≡ true). e) (λ (e : test p ≡ false). absurd (omega (arith, count-short p k h e)))
-      (passes-or-fails (test p))
-
   -- where any is counted, one passes
   pub some-passes : (k : ℕ) → 0 < count test k → Passing test k
   unfolding count

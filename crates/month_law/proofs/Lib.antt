@@ -5,8 +5,6 @@ pub mod LunarStep
 pub mod Rising
 pub mod Count
 pub mod MotionStep
-pub mod Quotient
-pub mod Size
 pub mod CorrectionStep
 pub mod MonthLength
 pub mod Months

@@ -10,11 +10,13 @@ use Rattle.measure.specs.Days.{dayOf}
 use Rattle.inequality.specs.Signed.{Signed}
 use Rattle.inequality.specs.Solar.{solarTime}
 use Rattle.inequality.specs.Lunar.{anomaly, anomalyAdvance}
+use Rattle.inequality.proofs.Sizes.{Within}
 use Rattle.moons.specs.Lunation.{mean}
 use Rattle.moons.specs.TrueMoon.{correction, correctionOf, moved, trueMoon, firstDay}
-use Rattle.month_law.proofs.Signed.{Below, gap}
+use Rattle.moons.proofs.Times.{solar-time-lt, anomaly-lt, mean-least}
+use Rattle.moons.proofs.Corrected.{correctionSize, correction-size}
+use Rattle.month_law.proofs.Signed.{gap}
 use Rattle.month_law.proofs.SolarStep.{mostSolarAdvance}
-use Rattle.month_law.proofs.Size.{correctionSize, correction-small}
 use Rattle.month_law.proofs.CorrectionStep.{correction-step}
 
 -- from one day to another it is 29 days or 30
@@ -25,8 +27,8 @@ pub record MonthLength (first next : ℕ) : Type 0 where
 -- two times a month apart, whose corrections differ by no more than a month lacks of 30 days
 by-step : (t : ℕ) (c c' : Signed)
     → correctionSize ≤ t
-    → Below correctionSize c
-    → Below correctionSize c'
+    → Within correctionSize c
+    → Within correctionSize c'
     → gap c c' ≤ monthDeficit
     → MonthLength (dayOf (moved t c)) (dayOf (moved (t + month) c'))
 unfolding moved gap
@@ -39,7 +41,7 @@ pub month-length : (t s e a : ℕ) → correctionSize ≤ t → s < year → e �
 month-length t s e a h hs he ha =
     let s' = (s + e) % year in
     let a' = (a + anomalyAdvance) % anomalisticMonth in
-    by-step t (correction s a) (correction s' a') h (correction-small s a) (correction-small s' a')
+    by-step t (correction s a) (correction s' a') h (correction-size s a) (correction-size s' a')
     (correction-step s e a hs he ha)
 
 -- the quarter of the lunation after l
@@ -56,34 +58,22 @@ module _ (e : Epoch) (l q : ℕ) where
   unfolding anomaly
   anomaly-next = omega arith
 
-  mean-least : meanStart e ≤ mean e l q
-  unfolding mean
-  mean-least = omega arith
-
-  solar-lt : solarTime e l q < year
-  unfolding solarTime
-  solar-lt = omega arith
-
-  anomaly-lt : anomaly e l q < anomalisticMonth
-  unfolding anomaly
-  anomaly-lt = omega arith
-
 -- so month l has 29 or 30 days
 pub lunation-length : (e : Epoch) → correctionSize ≤ meanStart e → (l : ℕ) → MonthLength (firstDay e l) (firstDay e (suc l))
 unfolding firstDay trueMoon correctionOf
 lunation-length e h l =
     rw (mean-next e l 0, solar-next e l 0, anomaly-next e l 0)
-    (month-length (mean e l 0) (solarTime e l 0) month (anomaly e l 0) (omega (arith, mean-least e l 0)) (solar-lt e l 0)
+    (month-length (mean e l 0) (solarTime e l 0) month (anomaly e l 0) (omega (arith, mean-least e l 0)) (solar-time-lt e l 0)
     (omega arith) (anomaly-lt e l 0))
 
--- and each true new moon lies less than a correction's size from its mean
+-- and each true new moon lies no further than a correction's size from its mean
 pub record Near (e : Epoch) (l : ℕ) : Type 0 where
   pub not-before : mean e l 0 < firstDay e l * day + day + correctionSize
-  pub not-after : firstDay e l * day < mean e l 0 + correctionSize
+  pub not-after : firstDay e l * day ≤ mean e l 0 + correctionSize
 
 pub near : (e : Epoch) → correctionSize ≤ meanStart e → (l : ℕ) → Near e l
 unfolding firstDay trueMoon correctionOf moved
 near e h l =
-    let small : Below correctionSize (correction (solarTime e l 0) (anomaly e l 0)) =
-    correction-small (solarTime e l 0) (anomaly e l 0) in
+    let small : Within correctionSize (correction (solarTime e l 0) (anomaly e l 0)) =
+    correction-size (solarTime e l 0) (anomaly e l 0) in
     record { not-before = omega (arith, mean-least e l 0); not-after = omega (arith, mean-least e l 0) }

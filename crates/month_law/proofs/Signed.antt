@@ -1,14 +1,9 @@
 -- How far two signed numbers lie apart, and the laws of it.
 -- Assumes nothing.
 use mathlib.Core.Path.{_≡_}
-use Prim.Native.Nat.{ℕ, _+_, _-_, _≤_, _<_}
+use Prim.Native.Nat.{ℕ, _+_, _-_, _≤_}
 use native.Mathlib.Omega.{arith}
 use Rattle.inequality.specs.Signed.{Signed, aheadBy, behindBy, minus}
-
--- both parts lie below n
-pub record Below (n : ℕ) (x : Signed) : Type 0 where
-  pub ahead-lt : x .ahead < n
-  pub behind-lt : x .behind < n
 
 -- the magnitude of the difference: of the two differences of naturals one is 0
 unfoldable pub gap : Signed → Signed → ℕ

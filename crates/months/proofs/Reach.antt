@@ -7,9 +7,9 @@ use native.Mathlib.Omega.{arith}
 use Rattle.measure.specs.Units.{day, month, lastYear, termStep}
 use Rattle.measure.specs.Epoch.{shoushi, meanStart}
 use Rattle.moons.specs.Lunation.{lastLunation, mean}
+use Rattle.moons.proofs.Corrected.{correctionSize}
 use Rattle.month_law.specs.Calendar.{Calendar, monthOf, head, monthsIn}
 use Rattle.month_law.specs.Edition.{middleDay, calendar}
-use Rattle.month_law.proofs.Size.{correctionSize}
 use Rattle.month_law.proofs.MonthLength.{Near, near}
 use Rattle.month_law.proofs.Rising.{rises-weakly, order-back}
 use Rattle.month_law.proofs.Months.{InMonth, first-rises, day-in-month, month-of, head-rises}

@@ -3,7 +3,7 @@
 -- Assumes nothing.
 use mathlib.Core.Path.{_≡_, _∙_, refl, sym, ap, subst}
 use Prim.Native.Nat.{ℕ, zero, suc, _+_, _*_, _-_, _/_, _^_, _≤_, _<_}
-use native.Mathlib.Nat.{zero-div, div-mul-le-self, mul-le-mul-left, le-trans}
+use native.Mathlib.Nat.{zero-div, le-trans}
 use native.Mathlib.Omega.{arith}
 use lib.IntN.{ℤ, pos, negsuc, negℤ, _+ℤ_, _-ℤ_, _*ℤ_}
 use lib.Signed.{mag, quotZ}
@@ -16,11 +16,11 @@ use Rattle.inequality.specs.Solar.{solar, solarTime}
 use Rattle.inequality.specs.Lunar.{lunar, anomaly}
 use Rattle.inequality.specs.Motion.{motion}
 use Rattle.inequality.proofs.Integers.{Is, is-subℕ, is-neg, is-integer, integer-is, integer-ahead, integer-minus, integer-mag, opposite-mag, held}
-use Rattle.inequality.proofs.Sizes.{solarSize, lunarSize, solar-size, lunar-size}
-use Rattle.inequality.proofs.MotionRows.{leastMotion}
+use Rattle.inequality.proofs.Sizes.{Within, differenceSize, difference-size}
 use Rattle.inequality.proofs.Rows.{motion-least, motion-most}
 use Rattle.moons.specs.Lunation.{Counted, mean}
 use Rattle.moons.specs.TrueMoon.{correctionFactor, corrected, correction, correctionOf, moved, trueMoon}
+use Rattle.moons.proofs.Quotient.{quotient-least, corrected-is}
 use Rattle.moons.proofs.Times.{mean-least, mean-most}
 
 -- ---- the quotient
@@ -60,24 +60,20 @@ integer-correction s a =
     (sym (integer-is (quotZ (integer x *ℤ pos correctionFactor) (pos (motion a))) (corrected x (motion a))
     (is-corrected (integer x) x (motion a) (is-integer x))))
 
--- ---- sizes
+-- ---- sizes: 1.2 days
 abbrev pub correctionSize : ℕ
 correctionSize = 120_000_000
 
-quotient-le : (n m : ℕ) → leastMotion ≤ m → n * correctionFactor / m * leastMotion ≤ n * correctionFactor
-quotient-le n m h =
-    le-trans (mul-le-mul-left (n * correctionFactor / m) h) (div-mul-le-self (n * correctionFactor) m)
-
-pub correction-size : (s a : ℕ) → correction s a .ahead + correction s a .behind ≤ correctionSize
-unfolding correction corrected
+pub correction-size : (s a : ℕ) → Within correctionSize (correction s a)
+unfolding correction
 correction-size s a =
     let x = minus (solar s) (lunar a) in
     omega (
       arith,
-      solar-size s,
-      lunar-size a,
-      quotient-le (x .ahead - x .behind) (motion a) (motion-least a),
-      quotient-le (x .behind - x .ahead) (motion a) (motion-least a),
+      difference-size s a,
+      corrected-is x (motion a),
+      quotient-least (x .ahead - x .behind) (motion a) (motion-least a),
+      quotient-least (x .behind - x .ahead) (motion a) (motion-least a),
     )
 
 mag-mul : (z : ℤ) (k : ℕ) → mag (z *ℤ pos k) ≤ (mag z + 1) * k
@@ -85,11 +81,11 @@ mag-mul (pos n) k = omega arith
 mag-mul (negsuc n) k = le-trans (opposite-mag (suc n * k)) (omega arith)
 
 -- ---- 64 bits: each step of a program fits them, and is read back off them
-difference-mag : (s a : ℕ) → mag (difference s a) ≤ solarSize + lunarSize
+difference-mag : (s a : ℕ) → mag (difference s a) ≤ differenceSize
 unfolding difference
 difference-mag s a =
     rw (sym (integer-minus (solar s) (lunar a)))
-    (le-trans (integer-mag (minus (solar s) (lunar a))) (omega (arith, solar-size s, lunar-size a)))
+    (le-trans (integer-mag (minus (solar s) (lunar a))) (difference-size s a))
 
 pub difference-fits : (s a : ℕ) → SFits w64 (difference s a)
 difference-fits s a = record { sfits = omega (arith, difference-mag s a) }

@@ -5,8 +5,8 @@ use Prim.Native.Nat.{ℕ, _+_, _*_, _-_, _/_, _≤_, _<_}
 use native.Mathlib.Nat.{mul-le-mul-left, div-mul-le-self, lt-div-mul-add, div-lt-iff-lt-mul}
 use native.Mathlib.Omega.{arith}
 use Rattle.inequality.specs.Signed.{Signed}
+use Rattle.inequality.proofs.MotionRows.{leastMotion}
 use Rattle.moons.specs.TrueMoon.{correctionFactor, corrected}
-use Rattle.month_law.proofs.MotionStep.{leastMotion}
 
 pub quotient : ℕ → ℕ → ℕ
 quotient x m = x * correctionFactor / m
