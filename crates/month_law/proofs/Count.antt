@@ -45,14 +45,6 @@ module _ (test : ℕ → Bool) where
   pub count-past : (p k : ℕ) → p < k → test p ≡ true → suc (count test p) ≤ count test k
   count-past p k h e = omega (arith, count-rises (suc p) k h, count-suc p, ap oneIf e)
 
-  -- and one that fails is not
-  count-short : (p k : ℕ) → p < k → test p ≡ false → count test k < k
-  count-short p zero h e = absurd (omega arith)
-  count-short p (suc k) h e =
-      ⊎-elim (λ (l : p < k). omega (arith, count-short p k l e, count-suc k, one-most (test k)))
-      (λ (g : k ≤ p). let here : k ≡ p = omega arith in omega (arith, count-most k, count-suc k, ap oneIf (ap test here ∙ e)))
-      (lt-or-ge p k)
-
   -- where none is counted none passes
   pub none-passes : (p k : ℕ) → count test k ≡ 0 → p < k → test p ≡ false
   none-passes p k z h =
