@@ -1,2 +1,3 @@
 pub mod Reach
 pub mod ByTerm
+pub mod RecordLaws

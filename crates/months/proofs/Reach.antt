@@ -16,7 +16,7 @@ use Rattle.month_law.proofs.Months.{InMonth, first-rises, day-in-month, month-o
 use Rattle.month_law.proofs.Lists.{months-in-least}
 use Rattle.month_law.proofs.Edition.{figures, middle-day, shoushi-lawful}
 use Rattle.months.specs.Month.{earliest, latest}
-use Rattle.months.specs.Span.{spanOf}
+use Rattle.months.specs.Span.{spanOf, LastBefore}
 use Rattle.months.specs.declared.Span.{Span}
 
 abbrev c : Calendar
@@ -25,6 +25,10 @@ c = calendar shoushi
 -- no month begins before the first
 pub first-least : (l : ℕ) → earliest ≤ c .first l
 first-least l = omega (arith, figures, rises-weakly (c .first) (first-rises c shoushi-lawful) 0 l (omega arith))
+
+-- a month of the lists ends by the day after the latest
+pub end-most : (l : ℕ) → l ≤ lastLunation → c .first (suc l) ≤ suc latest
+end-most l h = omega (arith, figures, rises-weakly (c .first) (first-rises c shoushi-lawful) (suc l) (suc lastLunation) (omega arith))
 
 -- the months of the calendar's days
 module _ (d : ℕ) (since : earliest ≤ d) (until : d ≤ latest) where
@@ -39,13 +43,7 @@ module _ (d : ℕ) (since : earliest ≤ d) (until : d ≤ latest) where
       )
 
   pub next-most : c .first (suc (monthOf c d)) ≤ suc latest
-  next-most =
-      omega (
-        arith,
-        figures,
-        month-most,
-        rises-weakly (c .first) (first-rises c shoushi-lawful) (suc (monthOf c d)) (suc lastLunation) (omega (arith, month-most)),
-      )
+  next-most = end-most (monthOf c d) month-most
 
 -- the heads
 pub head-most : (n : ℕ) → n ≤ suc lastYear → head c n ≤ suc lastLunation
@@ -60,6 +58,10 @@ solstice-most n h = omega (arith, middle-day shoushi (12 * n))
 
 pub solstice-least : (j : ℕ) → earliest ≤ middleDay shoushi j
 solstice-least j = omega (arith, middle-day shoushi j)
+
+-- a middle term before then is of an admitted year
+pub term-small : (next j : ℕ) → next ≤ suc latest → LastBefore c next j → j < 12_000
+term-small next j h last = omega (arith, last .come, middle-day shoushi j)
 
 -- l is the last mean new moon not after the beginning of day d
 pub record MeanBefore (d l : ℕ) : Type 0 where

@@ -8,11 +8,11 @@ use Rattle.measure.specs.Epoch.{shoushi}
 use Rattle.month_law.specs.Calendar.{Calendar, monthOf, head}
 use Rattle.month_law.specs.Edition.{calendar}
 use Rattle.month_law.proofs.Terms.{one-come}
-use Rattle.month_law.proofs.Edition.{middle-day, shoushi-lawful}
+use Rattle.month_law.proofs.Edition.{shoushi-lawful}
 use Rattle.months.specs.Month.{Kind, MonthOfDay, earliest, latest, monthOfDay, kindSaid}
 use Rattle.months.specs.Span.{spanOf, kindBy, LastBefore}
 use Rattle.months.specs.declared.Span.{Span}
-use Rattle.months.proofs.Reach.{month-held, next-most}
+use Rattle.months.proofs.Reach.{month-held, next-most, term-small}
 use Rattle.months.proofs.ByTerm.{year-told, month-is}
 use Rattle.months.proofs.month_in.Statement.{statement}
 use Rattle.months.proofs.month_in.Tie as tie
@@ -30,10 +30,6 @@ module _ (span : Span) (d : ℕ) (e : span ≡ spanOf cal (monthOf cal d)) where
 
   next-is : span .next ≡ cal .first (suc (monthOf cal d))
   next-is = ap (λ (s : Span). s .next) e
-
--- a middle term before the end of the last month is of an admitted year
-term-small : (next j : ℕ) → next ≤ suc latest → LastBefore cal next j → j < 12_000
-term-small next j h last = omega (arith, last .come, middle-day shoushi j)
 
 -- what is known of a span whose day is admitted, and of the last middle term before its end
 module _ (span : Span) (d : ℕ) (since : earliest ≤ d) (until : d ≤ latest) (e : span ≡ spanOf cal (monthOf cal d)) where
