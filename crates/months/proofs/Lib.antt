@@ -1,3 +1,4 @@
 pub mod Reach
+pub mod Spans
 pub mod ByTerm
 pub mod RecordLaws

@@ -42,9 +42,6 @@ module _ (d : ℕ) (since : earliest ≤ d) (until : d ≤ latest) where
         order-back (c .first) (first-rises c shoushi-lawful) (monthOf c d) (suc lastLunation) (omega (arith, figures, month-held)),
       )
 
-  pub next-most : c .first (suc (monthOf c d)) ≤ suc latest
-  next-most = end-most (monthOf c d) month-most
-
 -- the heads
 pub head-most : (n : ℕ) → n ≤ suc lastYear → head c n ≤ suc lastLunation
 head-most n h = omega (arith, figures, rises-weakly (head c) (head-rises c shoushi-lawful) n (suc lastYear) h)

@@ -16,7 +16,7 @@ use Rattle.month_law.proofs.Runs.{year-of}
 use Rattle.months.specs.Month.{Kind, ordinary, leap, kindAt, numberIn, markIn}
 use Rattle.months.specs.Span.{LastBefore, kindBy}
 use Rattle.months.specs.Records.{recordWidth, yearRoom, recordAt, recordOf, recordsOf, runOf, monthsInRun}
-use Rattle.months.proofs.ByTerm.{year-told, year-is, kind-is}
+use Rattle.months.proofs.ByTerm.{year-told, year-is, kind-told}
 
 -- the record of a month by its two days and its kind
 abbrev pub recordBy : ℕ → ℕ → Kind → List ℕ
@@ -78,10 +78,9 @@ module _ (c : Calendar) (ok : Lawful c) where
       let n = j / 12 in
       let p = l - head c n in
       let at : head c n + p ≡ l = listed-place c ok n l (year-told c ok l j last) in
-      let kind : kindBy c (c .first l) j ≡ kindAt c n p =
-      ap (λ (m : ℕ). kindBy c (c .first m) j) (sym at)
-      ∙ kind-is c ok n p j (omega (arith, year-told c ok l j last)) (rw at last) in
-      rw (← year-is c ok l j last, kind, ← at) (by-kind c n p)
+      ap₂ (λ (m : ℕ) (kind : Kind). recordBy (c .first m) (c .first (suc m)) kind) (sym at) (kind-told c ok l j last)
+      ∙ by-kind c n p
+      ∙ ap (λ (m : ℕ). recordAt c m (l - head c m)) (year-is c ok l j last)
 
   -- no run has more records than a row has room for
   pub months-run-most : (n k : ℕ) → monthsInRun c n k ≤ yearRoom * k

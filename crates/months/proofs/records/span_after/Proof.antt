@@ -1,12 +1,12 @@
 -- `months::records::span_after` meets its contract. Assumes nothing.
 use mathlib.Core.Path.{_≡_, _∙_, ap}
-use Prim.Native.Nat.{ℕ, suc, _+_}
+use Prim.Native.Nat.{suc, _+_}
 use native.Mathlib.Numerals.{add-one}
 use native.Mathlib.Omega.{arith}
 use borrow.Author.Needs.{needs}
 use Rattle.measure.specs.Epoch.{shoushi}
 use Rattle.moons.specs.TrueMoon.{firstDay}
-use Rattle.months.specs.declared.Span.{Span}
+use Rattle.months.proofs.Spans.{next-is}
 use Rattle.months.proofs.records.span_after.Statement.{statement}
 use Rattle.months.proofs.records.span_after.Tie as tie
 
@@ -21,11 +21,12 @@ first-day-requires c κs = search needs
 
 returns : tie.Need-returns
 returns c =
-    let l = c .before .args .span .lunation in
+    let start = c .before .before .before in
+    let span = start .args .span in
+    let l = span .lunation in
     let two : l + 2 ≡ suc (suc l) = omega arith in
-    let first = ap (λ (s : Span). s .next) (c .before .pre .0) in
-    let next = c .first-day .ensures ∙ ap (firstDay shoushi) two in
-    λ i. record { lunation = add-one l i; first = first i; next = next i }
+    let next : c .first-day .result ≡ firstDay shoushi (suc (suc l)) = c .first-day .ensures ∙ ap (firstDay shoushi) two in
+    λ i. record { lunation = add-one l i; first = next-is span l (start .pre .0) i; next = next i }
 
 pub span-after-spec : {M : Type 1} → statement M
 span-after-spec = tie.close (tie.spec add-t2 add-first-day first-day-requires returns)
