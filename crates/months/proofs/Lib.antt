@@ -1,4 +1,5 @@
-pub mod Reach
 pub mod Spans
+pub mod Reach
 pub mod ByTerm
 pub mod RecordLaws
+pub mod YearList

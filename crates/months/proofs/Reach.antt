@@ -18,6 +18,7 @@ use Rattle.month_law.proofs.Edition.{figures, middle-day, shoushi-lawful}
 use Rattle.months.specs.Month.{earliest, latest}
 use Rattle.months.specs.Span.{spanOf, LastBefore}
 use Rattle.months.specs.declared.Span.{Span}
+use Rattle.months.proofs.Spans.{next-is}
 
 abbrev c : Calendar
 c = calendar shoushi
@@ -29,6 +30,13 @@ first-least l = omega (arith, figures, rises-weakly (c .first) (first-rises c sh
 -- a month of the lists ends by the day after the latest
 pub end-most : (l : ℕ) → l ≤ lastLunation → c .first (suc l) ≤ suc latest
 end-most l h = omega (arith, figures, rises-weakly (c .first) (first-rises c shoushi-lawful) (suc l) (suc lastLunation) (omega arith))
+
+pub end-small : (span : Span) (l : ℕ) → span ≡ spanOf c l → l ≤ lastLunation → span .next ≤ suc latest
+end-small span l e h = omega (arith, next-is c span l e, end-most l h)
+
+-- a middle term before then is of an admitted year
+pub term-small : (next j : ℕ) → next ≤ suc latest → LastBefore c next j → j < 12_000
+term-small next j h last = omega (arith, last .come, middle-day shoushi j)
 
 -- the months of the calendar's days
 module _ (d : ℕ) (since : earliest ≤ d) (until : d ≤ latest) where
@@ -55,10 +63,6 @@ solstice-most n h = omega (arith, middle-day shoushi (12 * n))
 
 pub solstice-least : (j : ℕ) → earliest ≤ middleDay shoushi j
 solstice-least j = omega (arith, middle-day shoushi j)
-
--- a middle term before then is of an admitted year
-pub term-small : (next j : ℕ) → next ≤ suc latest → LastBefore c next j → j < 12_000
-term-small next j h last = omega (arith, last .come, middle-day shoushi j)
 
 -- l is the last mean new moon not after the beginning of day d
 pub record MeanBefore (d l : ℕ) : Type 0 where

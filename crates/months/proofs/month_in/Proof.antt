@@ -11,8 +11,8 @@ use Rattle.month_law.proofs.Edition.{shoushi-lawful}
 use Rattle.months.specs.Month.{Kind, MonthOfDay, earliest, latest, monthOfDay, kindSaid}
 use Rattle.months.specs.Span.{spanOf, kindBy, LastBefore}
 use Rattle.months.specs.declared.Span.{Span}
-use Rattle.months.proofs.Reach.{month-held, month-most, term-small}
-use Rattle.months.proofs.Spans.{lunation-is, first-is, next-is, first-before, term-come, last-of-month, end-small}
+use Rattle.months.proofs.Reach.{month-held, month-most, end-small, term-small}
+use Rattle.months.proofs.Spans.{lunation-is, first-is, next-is, first-before, term-come, last-of-month}
 use Rattle.months.proofs.ByTerm.{year-told, month-is}
 use Rattle.months.proofs.month_in.Statement.{statement}
 use Rattle.months.proofs.month_in.Tie as tie
@@ -26,15 +26,15 @@ module _ (span : Span) (d : ℕ) (since : earliest ≤ d) (until : d ≤ latest)
   next-small = end-small span (monthOf cal d) e (month-most d since until)
 
   begun : span .first ≤ d
-  begun = omega (arith, first-is span (monthOf cal d) e, month-held d since until)
+  begun = omega (arith, first-is cal span (monthOf cal d) e, month-held d since until)
 
   module _ (j : ℕ) (last : LastBefore cal (span .next) j) where
     before-next : LastBefore cal (cal .first (suc (monthOf cal d))) j
-    before-next = last-of-month span (monthOf cal d) e j last
+    before-next = last-of-month cal span (monthOf cal d) e j last
 
     head-before : (h : ℕ) → h ≡ head cal (j / 12) → h ≤ span .lunation
     head-before h eh =
-        omega (arith, lunation-is span (monthOf cal d) e, year-told cal shoushi-lawful (monthOf cal d) j before-next)
+        omega (arith, lunation-is cal span (monthOf cal d) e, year-told cal shoushi-lawful (monthOf cal d) j before-next)
 
     said : (kind : Kind) (h : ℕ) → kind ≡ kindBy cal (span .first) j → h ≡ head cal (j / 12)
         → _≡_ {A = MonthOfDay}
@@ -48,15 +48,15 @@ module _ (span : Span) (d : ℕ) (since : earliest ≤ d) (until : d ≤ latest)
         })
         (monthOfDay cal d)
     said kind h ek eh =
-        let kind' : kind ≡ kindBy cal (cal .first (monthOf cal d)) j = ek ∙ ap (λ (f : ℕ). kindBy cal f j) (first-is span (monthOf cal d) e) in
+        let kind' : kind ≡ kindBy cal (cal .first (monthOf cal d)) j = ek ∙ ap (λ (f : ℕ). kindBy cal f j) (first-is cal span (monthOf cal d) e) in
         (λ i.
         record {
           kind = kind' i;
           year = j / 12;
-          place = lunation-is span (monthOf cal d) e i - eh i;
-          day = d - first-is span (monthOf cal d) e i + 1;
-          first = first-is span (monthOf cal d) e i;
-          length = next-is span (monthOf cal d) e i - first-is span (monthOf cal d) e i;
+          place = lunation-is cal span (monthOf cal d) e i - eh i;
+          day = d - first-is cal span (monthOf cal d) e i + 1;
+          first = first-is cal span (monthOf cal d) e i;
+          length = next-is cal span (monthOf cal d) e i - first-is cal span (monthOf cal d) e i;
         })
         ∙ month-is cal shoushi-lawful d (monthOf cal d) j refl before-next
 
@@ -64,7 +64,7 @@ last-term-requires : tie.Need-last-term-requires
 last-term-requires c κs =
     let p = c .pre in
     let d = c .args .d in
-    omega (arith, term-come (c .args .span) (monthOf cal d) (p .2), next-small (c .args .span) d (p .0) (p .1) (p .2))
+    omega (arith, term-come cal (c .args .span) (monthOf cal d) (p .2) shoushi-lawful, next-small (c .args .span) d (p .0) (p .1) (p .2))
 
 kind-by-requires : tie.Need-kind-by-requires
 kind-by-requires c κs =
@@ -104,7 +104,7 @@ add-t11 c = search needs
 
 sub-t12 : tie.Need-sub-t12
 sub-t12 c =
-    let start = c .before .before .before .before in first-before (start .args .span) (monthOf cal (start .args .d)) (start .pre .2)
+    let start = c .before .before .before .before in first-before cal (start .args .span) (monthOf cal (start .args .d)) (start .pre .2) shoushi-lawful
 
 returns : tie.Need-returns
 returns c =

@@ -14,8 +14,8 @@ use Rattle.months.specs.Month.{Kind, kindSaid}
 use Rattle.months.specs.Span.{spanOf, kindBy, LastBefore}
 use Rattle.months.specs.Records.{recordOf}
 use Rattle.months.specs.declared.Span.{Span}
-use Rattle.months.proofs.Reach.{term-small}
-use Rattle.months.proofs.Spans.{first-is, next-is, first-before, term-come, last-of-month, end-small}
+use Rattle.months.proofs.Reach.{end-small, term-small}
+use Rattle.months.proofs.Spans.{first-is, next-is, first-before, term-come, last-of-month}
 use Rattle.months.proofs.RecordLaws.{recordBy, record-told}
 use Rattle.months.proofs.records.put_month.Statement.{statement}
 use Rattle.months.proofs.records.put_month.Tie as tie
@@ -28,16 +28,16 @@ module _ (span : Span) (e : span ≡ spanOf cal (span .lunation)) where
       → recordBy (span .first) (span .next) kind ≡ recordOf cal (span .lunation)
   told j kind last k =
       let l = span .lunation in
-      let first = first-is span l e in
-      let next = next-is span l e in
+      let first = first-is cal span l e in
+      let next = next-is cal span l e in
       (λ i. recordBy (first i) (next i) ((k ∙ ap (λ (f : ℕ). kindBy cal f j) first) i))
-      ∙ record-told cal shoushi-lawful l j (last-of-month span l e j last)
+      ∙ record-told cal shoushi-lawful l j (last-of-month cal span l e j last)
 
 last-term-requires : tie.Need-last-term-requires
 last-term-requires c κs =
     let span = c .before .args .span in
     let p = c .before .pre in
-    omega (arith, term-come span (span .lunation) (p .0), end-small span (span .lunation) (p .0) (p .1))
+    omega (arith, term-come cal span (span .lunation) (p .0) shoushi-lawful, end-small span (span .lunation) (p .0) (p .1))
 
 kind-by-requires : tie.Need-kind-by-requires
 kind-by-requires c κs =
@@ -52,7 +52,7 @@ kind-by-requires c κs =
 sub-put-record : tie.Need-sub-put-record
 sub-put-record c =
     let start = c .before .before .before .before .before in
-    first-before (start .args .span) (start .args .span .lunation) (start .pre .0)
+    first-before cal (start .args .span) (start .args .span .lunation) (start .pre .0) shoushi-lawful
 
 number-in-requires : tie.Need-number-in-requires
 number-in-requires c κs = search needs

@@ -6,6 +6,7 @@ use native.Mathlib.Omega.{arith}
 use borrow.Author.Needs.{needs}
 use Rattle.measure.specs.Epoch.{shoushi}
 use Rattle.moons.specs.TrueMoon.{firstDay}
+use Rattle.month_law.specs.Edition.{calendar}
 use Rattle.months.proofs.Spans.{next-is}
 use Rattle.months.proofs.records.span_after.Statement.{statement}
 use Rattle.months.proofs.records.span_after.Tie as tie
@@ -26,7 +27,7 @@ returns c =
     let l = span .lunation in
     let two : l + 2 ≡ suc (suc l) = omega arith in
     let next : c .first-day .result ≡ firstDay shoushi (suc (suc l)) = c .first-day .ensures ∙ ap (firstDay shoushi) two in
-    λ i. record { lunation = add-one l i; first = next-is span l (start .pre .0) i; next = next i }
+    λ i. record { lunation = add-one l i; first = next-is (calendar shoushi) span l (start .pre .0) i; next = next i }
 
 pub span-after-spec : {M : Type 1} → statement M
 span-after-spec = tie.close (tie.spec add-t2 add-first-day first-day-requires returns)
