@@ -3,3 +3,4 @@ pub mod Reach
 pub mod ByTerm
 pub mod RecordLaws
 pub mod YearList
+pub mod RunList

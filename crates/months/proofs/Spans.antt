@@ -2,13 +2,13 @@
 -- is not over by the next solstice.
 -- Assumes nothing.
 use mathlib.Core.Path.{_≡_, ap, subst}
-use Prim.Native.Nat.{ℕ, suc, _+_, _*_, _≤_, _<_}
+use Prim.Native.Nat.{ℕ, suc, _+_, _-_, _*_, _≤_, _<_}
 use native.Mathlib.Numerals.{add-one}
 use native.Mathlib.Omega.{arith}
-use Rattle.month_law.specs.Calendar.{Calendar, head}
+use Rattle.month_law.specs.Calendar.{Calendar, head, monthsIn}
 use Rattle.month_law.specs.Lawful.{Lawful}
 use Rattle.month_law.proofs.Rising.{begun-by}
-use Rattle.month_law.proofs.Months.{first-rises, head-holds, head-last}
+use Rattle.month_law.proofs.Months.{first-rises, head-holds, head-last, head-rises}
 use Rattle.month_law.proofs.Terms.{one-come}
 use Rattle.months.specs.Span.{spanOf, LastBefore}
 use Rattle.months.specs.declared.Span.{Span}
@@ -47,3 +47,12 @@ module _ (c : Calendar) (span : Span) (l : ℕ) (e : span ≡ spanOf c l) where
       not-over h =
           begun-by (c .first) (first-rises c ok) (head c (suc n)) l (c .mid (12 * suc n)) (head-holds c ok (suc n) .since)
           (omega (arith, solstice-is, next-is))
+
+-- from the head of year n to the next
+module _ (c : Calendar) (n : ℕ) (start end : Span) (s : start ≡ spanOf c (head c n)) (e : end ≡ spanOf c (head c (suc n))) where
+  pub months-between : end .lunation - start .lunation ≡ monthsIn c n
+  months-between = λ i. lunation-is c end (head c (suc n)) e i - lunation-is c start (head c n) s i
+
+  pub head-later : Lawful c → start .lunation ≤ end .lunation
+  head-later ok =
+      omega (arith, lunation-is c start (head c n) s, lunation-is c end (head c (suc n)) e, head-rises c ok n)
