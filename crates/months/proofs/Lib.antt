@@ -1,4 +1,8 @@
+pub mod Spans
 pub mod Reach
 pub mod ByTerm
 pub mod Back
 pub mod RoundTrip
+pub mod RecordLaws
+pub mod YearList
+pub mod RunList

@@ -16,8 +16,9 @@ use Rattle.month_law.proofs.Months.{InMonth, first-rises, day-in-month, month-o
 use Rattle.month_law.proofs.Lists.{months-in-least}
 use Rattle.month_law.proofs.Edition.{figures, middle-day, shoushi-lawful}
 use Rattle.months.specs.Month.{earliest, latest}
-use Rattle.months.specs.Span.{spanOf}
+use Rattle.months.specs.Span.{spanOf, LastBefore}
 use Rattle.months.specs.declared.Span.{Span}
+use Rattle.months.proofs.Spans.{next-is}
 
 abbrev c : Calendar
 c = calendar shoushi
@@ -26,9 +27,16 @@ c = calendar shoushi
 pub first-least : (l : ℕ) → earliest ≤ c .first l
 first-least l = omega (arith, figures, rises-weakly (c .first) (first-rises c shoushi-lawful) 0 l (omega arith))
 
--- nor one that is counted after the last day but one
+-- nor does one that is counted begin after the day that follows the latest
 pub first-most : (l : ℕ) → l ≤ suc lastLunation → c .first l ≤ suc latest
 first-most l h = omega (arith, figures, rises-weakly (c .first) (first-rises c shoushi-lawful) l (suc lastLunation) h)
+
+pub end-small : (span : Span) (l : ℕ) → span ≡ spanOf c l → l ≤ lastLunation → span .next ≤ suc latest
+end-small span l e h = omega (arith, next-is c span l e, first-most (suc l) (omega arith))
+
+-- a middle term before then is of an admitted year
+pub term-small : (next j : ℕ) → next ≤ suc latest → LastBefore c next j → j < 12_000
+term-small next j h last = omega (arith, last .come, middle-day shoushi j)
 
 -- the months of the calendar's days
 module _ (d : ℕ) (since : earliest ≤ d) (until : d ≤ latest) where
@@ -41,9 +49,6 @@ module _ (d : ℕ) (since : earliest ≤ d) (until : d ≤ latest) where
         arith,
         order-back (c .first) (first-rises c shoushi-lawful) (monthOf c d) (suc lastLunation) (omega (arith, figures, month-held)),
       )
-
-  pub next-most : c .first (suc (monthOf c d)) ≤ suc latest
-  next-most = first-most (suc (monthOf c d)) (omega (arith, month-most))
 
 -- the heads
 pub head-most : (n : ℕ) → n ≤ suc lastYear → head c n ≤ suc lastLunation
