@@ -1,4 +1,5 @@
 pub mod Admitted
 pub mod Times
 pub mod Corrected
+pub mod Bits
 pub mod Unique
