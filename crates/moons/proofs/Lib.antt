@@ -2,4 +2,5 @@ pub mod Admitted
 pub mod Times
 pub mod Quotient
 pub mod Corrected
+pub mod Bits
 pub mod Unique

@@ -2,7 +2,7 @@
 use native.Mathlib.Omega.{arith}
 use borrow.Author.Needs.{needs}
 use Rattle.inequality.proofs.Rows.{motion-least}
-use Rattle.moons.proofs.Corrected.{fits-as, difference-fits, product-fits, motion-fits, correction-fits, difference-read, product-read, quotient-read, correction-read}
+use Rattle.moons.proofs.Bits.{fits-as, difference-fits, product-fits, motion-fits, correction-fits, difference-read, product-read, quotient-read, correction-read}
 use Rattle.moons.proofs.correction_at.Statement.{statement}
 use Rattle.moons.proofs.correction_at.Tie as tie
 

@@ -7,7 +7,7 @@ use mir.Syntax.{w64}
 use mir.Val.{Fits}
 use mir.Facts.{fits-natAbs}
 use borrow.Author.Needs.{needs}
-use Rattle.moons.proofs.Corrected.{fits-as, mean-fits, true-fits, sum-read, true-read}
+use Rattle.moons.proofs.Bits.{fits-as, mean-fits, true-fits, sum-read, true-read}
 use Rattle.moons.proofs.true_time.Statement.{statement}
 use Rattle.moons.proofs.true_time.Tie as tie
 
