@@ -1,4 +1,6 @@
 // How months are written: that of a day, and the records of lists.
+ghost use Prim.Native.Nat.{_/_, _<_};
+ghost use lib.ListN.{length};
 use crate::reply::refused;
 use crate::write;
 use crate::write::Out;
@@ -61,7 +63,9 @@ fn all(buf: &mut [u8], o: Out, records: u64, row: &[u64]) -> Out {
 }
 
 // Record i of a row: a blank before each but the first, and colons between its numbers.
-fn nth(buf: &mut [u8], o: Out, i: usize, row: &[u64]) -> Out {
+fn nth(buf: &mut [u8], o: Out, i: usize, row: &[u64]) -> Out
+    requires { ⌜ i < length (now row) / 4 ⌝ }
+{
     let o = blank_before(buf, o, i);
     let at = i * 4;
     four(buf, o, row[at], row[at + 1], row[at + 2], row[at + 3])

@@ -114,25 +114,30 @@ fn terms(buf: &mut [u8], o: Out, n: u64) -> Out {
 
 fn help(buf: &mut [u8], o: Out) -> Out {
     let o = write::text(buf, o, b"questions: constants, ");
+    let o = help_on_times(buf, o);
+    let o = help_on_months(buf, o);
+    write::text(buf, o, b"help")
+}
+
+fn help_on_times(buf: &mut [u8], o: Out) -> Out {
     let o = write::text(
         buf,
         o,
         b"solstice N, term N I, pentad N I P, earth N I, terms N, ",
     );
-    let o = write::text(buf, o, b"name D, hour R, extra R, vanishing R, ");
     let o = write::text(
         buf,
         o,
         b"mean L Q, true L Q, solar L Q, lunar L Q, correction L Q, motion L Q, ",
     );
-    let o = write::text(
-        buf,
-        o,
-        b"solar-at fast|slow T, lunar-at quick|tardy T, motion-at quick|tardy K, ",
-    );
     write::text(
         buf,
         o,
-        b"head N, day D, back N P M, year N, years N C, help",
+        b"solar-at fast|slow T, lunar-at quick|tardy T, motion-at quick|tardy K, ",
     )
+}
+
+fn help_on_months(buf: &mut [u8], o: Out) -> Out {
+    let o = write::text(buf, o, b"name D, hour R, extra R, vanishing R, ");
+    write::text(buf, o, b"head N, day D, back N P M, year N, years N C, ")
 }
