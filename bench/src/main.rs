@@ -1,0 +1,112 @@
+//! Times the proved functions, built for this machine, against the same work in plain Rust, in one run.
+
+mod plain;
+
+use std::hint::black_box;
+use std::time::Instant;
+
+extern "C" {
+    fn timing_true_moon(l: u64, q: u64) -> u64;
+    fn timing_run(row: *mut u64, length: usize, n: u64, count: u64) -> u64;
+}
+
+/// The least nanoseconds that one of `of` items took, over several rounds of both sides in turn.
+fn race(
+    rounds: usize,
+    of: u64,
+    mut ours: impl FnMut() -> u64,
+    mut theirs: impl FnMut() -> u64,
+) -> (f64, f64) {
+    let mut least = (f64::MAX, f64::MAX);
+    for _ in 0..rounds {
+        let start = Instant::now();
+        let a = black_box(ours());
+        let one = start.elapsed().as_nanos() as f64 / of as f64;
+        let start = Instant::now();
+        let b = black_box(theirs());
+        let two = start.elapsed().as_nanos() as f64 / of as f64;
+        assert_eq!(a, b, "the two sides disagree");
+        least = (least.0.min(one), least.1.min(two));
+    }
+    least
+}
+
+fn report(what: &str, times: (f64, f64), bound: f64) -> bool {
+    let ratio = times.0 / times.1;
+    println!(
+        "{what}: proved {:.1} ns, plain Rust {:.1} ns, ratio {ratio:.2} (at most {bound})",
+        times.0, times.1
+    );
+    ratio <= bound
+}
+
+/// Lunations or days in no order.
+fn shuffled(count: u64, most: u64) -> Vec<u64> {
+    let mut x = 0x9E37_79B9_7F4A_7C15u64;
+    (0..count)
+        .map(|_| {
+            x ^= x << 13;
+            x ^= x >> 7;
+            x ^= x << 17;
+            x % most
+        })
+        .collect()
+}
+
+fn true_moons() -> bool {
+    let asked = shuffled(200_000, 12_368 * 4);
+    let ours = || {
+        asked.iter().fold(0u64, |sum, x| {
+            sum.wrapping_add(unsafe { timing_true_moon(x / 4, x % 4) })
+        })
+    };
+    let theirs = || {
+        asked.iter().fold(0u64, |sum, x| {
+            sum.wrapping_add(plain::true_moon(x / 4, x % 4))
+        })
+    };
+    report(
+        "a true moon",
+        race(20, asked.len() as u64, ours, theirs),
+        1.5,
+    )
+}
+
+fn runs() -> bool {
+    let mut row = vec![0u64; 52_000];
+    let mut records = vec![plain::Record::default(); 13_000];
+    let ours = || {
+        let n = unsafe { timing_run(row.as_mut_ptr(), row.len(), 0, 1_000) };
+        row[..4 * n as usize]
+            .iter()
+            .fold(n, |sum, x| sum.wrapping_mul(31).wrapping_add(*x))
+    };
+    let theirs = || {
+        let n = plain::run(0, 1_000, &mut records);
+        let sum = |sum: u64, x: u64| sum.wrapping_mul(31).wrapping_add(x);
+        records[..n].iter().fold(n as u64, |s, m| {
+            sum(sum(sum(sum(s, m.first), m.length), m.number), m.leap)
+        })
+    };
+    report(
+        "a month of the run of 1,000 years",
+        race(20, 12_368, ours, theirs),
+        1.5,
+    )
+}
+
+fn main() {
+    println!(
+        "{}, {} build, least of several rounds",
+        std::env::consts::ARCH,
+        if cfg!(debug_assertions) {
+            "debug"
+        } else {
+            "release"
+        }
+    );
+    let good = [true_moons(), runs()];
+    if good.contains(&false) {
+        std::process::exit(1);
+    }
+}

@@ -1,0 +1,209 @@
+//! The same calendar in plain Rust, in the fastest form found: 64 bits throughout, products over a day split by the time, motions
+//! from a table.
+
+const DAY: u64 = 100_000_000;
+const YEAR: u64 = 36_524_250_000;
+const HALF_YEAR: u64 = YEAR / 2;
+const MONTH: u64 = 2_953_059_300;
+const QUARTER: u64 = MONTH / 4;
+const ANOMALISTIC: u64 = 2_755_460_000;
+const HALF_ANOMALISTIC: u64 = ANOMALISTIC / 2;
+const TERM: u64 = YEAR / 24;
+const SOLSTICE: u64 = 5_506_000_000;
+const LEAP: u64 = 2_018_500_000;
+const ANOMALY: u64 = 1_319_040_000;
+const FAST_LIMIT: u64 = 8_890_922_500;
+const SLOW_LIMIT: u64 = HALF_YEAR - FAST_LIMIT;
+const MEAN_START: u64 = SOLSTICE - LEAP;
+const SOLAR_START: u64 = HALF_YEAR - LEAP;
+const ANOMALY_START: u64 = (ANOMALY + 2 * ANOMALISTIC - LEAP) % ANOMALISTIC;
+
+struct Law(u64, u64, u64);
+const A: Law = Law(5_133_200, 24_600, 31);
+const B: Law = Law(4_870_600, 22_100, 27);
+const MOON: Law = Law(11_110_000, 28_100, 325);
+
+const fn exact(k: u64) -> u64 {
+    let k = if k <= 84 { k } else { 168 - k };
+    k * (MOON.0 - k * (MOON.1 + k * MOON.2))
+}
+
+const fn motions() -> [u64; 336] {
+    let mut table = [0; 336];
+    let mut k = 0;
+    while k < 168 {
+        table[k] = 109_623_750 + exact(k as u64 + 1) - exact(k as u64);
+        table[168 + k] = 109_623_750 + exact(k as u64) - exact(k as u64 + 1);
+        k += 1;
+    }
+    table
+}
+static MOTIONS: [u64; 336] = motions();
+
+#[inline(always)]
+fn over(a: u64, days: u64, rest: u64) -> u64 {
+    a * days + a * rest / DAY
+}
+
+#[inline(always)]
+fn law(c: Law, t: u64) -> i64 {
+    let (days, rest) = (t / DAY, t % DAY);
+    let growth = over(c.2 * 10_000, days, rest);
+    let taken = over(c.1 * 10_000 + growth, days, rest);
+    (over(c.0 * 10_000 - taken, days, rest) / 10_000) as i64
+}
+
+#[inline(always)]
+fn solar(s: u64) -> i64 {
+    if s < HALF_YEAR {
+        -(if s <= SLOW_LIMIT {
+            law(B, s)
+        } else {
+            law(A, HALF_YEAR - s)
+        })
+    } else {
+        let s = s - HALF_YEAR;
+        if s <= FAST_LIMIT {
+            law(A, s)
+        } else {
+            law(B, HALF_YEAR - s)
+        }
+    }
+}
+
+/// The true moon of quarter q of lunation l.
+#[inline(always)]
+pub fn true_time(l: u64, q: u64) -> u64 {
+    let anomaly = (ANOMALY_START + l * (MONTH - ANOMALISTIC) + q * QUARTER) % ANOMALISTIC;
+    let tardy = anomaly >= HALF_ANOMALISTIC;
+    let t = if tardy {
+        anomaly - HALF_ANOMALISTIC
+    } else {
+        anomaly
+    };
+    let limits = t * 122 / 10;
+    let nearer = if limits <= 84 * DAY {
+        limits
+    } else {
+        (168 * DAY).saturating_sub(limits)
+    };
+    let lunar = law(MOON, nearer);
+    let row = (limits / DAY).min(167) as usize + if tardy { 168 } else { 0 };
+    let sun = solar((SOLAR_START + l * MONTH + q * QUARTER) % YEAR);
+    let ahead = if tardy { sun + lunar } else { sun - lunar };
+    let mean = MEAN_START + l * MONTH + q * QUARTER;
+    (mean as i64 + ahead * 8_200_000 / MOTIONS[row] as i64) as u64
+}
+
+/// The question with its refusals.
+#[inline(never)]
+pub fn true_moon(l: u64, q: u64) -> u64 {
+    if l > 12_367 || q > 3 {
+        return 2;
+    }
+    true_time(l, q)
+}
+
+fn first(l: u64) -> u64 {
+    true_time(l, 0) / DAY
+}
+
+fn middle(n: u64, i: u64) -> u64 {
+    (n * YEAR + SOLSTICE + i * 2 * TERM) / DAY
+}
+
+/// The head of year n: the last month whose first day is not after the solstice's day.
+fn head(n: u64) -> u64 {
+    let solstice = middle(n, 0);
+    let mut l = (n * YEAR + LEAP) / MONTH;
+    while first(l) > solstice {
+        l -= 1;
+    }
+    while first(l + 1) <= solstice {
+        l += 1;
+    }
+    l
+}
+
+#[derive(Clone, Copy, Default, PartialEq, Debug)]
+pub struct Record {
+    pub first: u64,
+    pub length: u64,
+    pub number: u64,
+    pub leap: u64,
+}
+
+/// Year n's list from its head on, and the next year's head.
+fn list_from(n: u64, head: u64, row: &mut [Record]) -> (usize, u64) {
+    let next = middle(n + 1, 0);
+    let (mut l, mut day, mut count) = (head, first(head), 0);
+    loop {
+        let end = first(l + 1);
+        if day > middle(n, 0) && end > next && day <= next {
+            break;
+        }
+        row[count] = Record {
+            first: day,
+            length: end - day,
+            number: 0,
+            leap: 0,
+        };
+        count += 1;
+        day = end;
+        l += 1;
+    }
+    let (mut term, mut rank) = (0, 0);
+    for record in row[..count].iter_mut() {
+        let held = term < 12 && middle(n, term) < record.first + record.length;
+        if held {
+            rank = term;
+            term += 1;
+        }
+        record.number = (rank + 10) % 12 + 1;
+        record.leap = (count == 13 && !held) as u64;
+    }
+    (count, l)
+}
+
+/// The lists of so many years.
+#[inline(never)]
+pub fn run(n: u64, years: u64, row: &mut [Record]) -> usize {
+    let (mut used, mut h) = (0, head(n));
+    for k in 0..years {
+        let (count, next) = list_from(n + k, h, &mut row[used..]);
+        used += count;
+        h = next;
+    }
+    used
+}
+
+#[derive(Default, PartialEq, Debug)]
+pub struct Found {
+    pub year: u64,
+    pub place: u64,
+    pub day: u64,
+    pub record: Record,
+}
+
+/// The month of a day: the day's year is listed and the list searched.
+#[inline(never)]
+pub fn day(d: u64) -> Option<Found> {
+    if !(35..=365_268).contains(&d) {
+        return None;
+    }
+    let mut row = [Record::default(); 13];
+    let mut year = (d * DAY).saturating_sub(SOLSTICE) / YEAR;
+    if year < 999 && first(head(year + 1)) <= d {
+        year += 1;
+    }
+    let (count, _) = list_from(year, head(year), &mut row);
+    let place = row[..count]
+        .iter()
+        .position(|m| m.first <= d && d < m.first + m.length)?;
+    Some(Found {
+        year,
+        place: place as u64,
+        day: d - row[place].first + 1,
+        record: row[place],
+    })
+}
