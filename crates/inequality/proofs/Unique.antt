@@ -19,6 +19,8 @@ use Rattle.inequality.proofs.lunar.Kinds as lunar
 use Rattle.inequality.proofs.lunar.Reads as lunar-reads
 use Rattle.inequality.proofs.motion.Kinds as motion
 use Rattle.inequality.proofs.motion.Reads as motion-reads
+use Rattle.inequality.proofs.magnitude_of.Kinds as magnitude-of
+use Rattle.inequality.proofs.magnitude_of.Reads as magnitude-of-reads
 
 signedMeant : Reply ℤ → SignedAnswer
 signedMeant (answer z) = Number z
@@ -49,3 +51,6 @@ lunar-unique κs a x y s t p q = p ∙ sym q
 
 pub motion-unique : OneReply motion.ps motion.r motion-reads.Post
 motion-unique κs a x y s t p q = p ∙ sym q
+
+pub magnitude-of-unique : OneReply magnitude-of.ps magnitude-of.r magnitude-of-reads.Post
+magnitude-of-unique κs a x y s t p q = p ∙ sym q
