@@ -4,3 +4,4 @@ pub mod ByTerm
 pub mod RecordLaws
 pub mod YearList
 pub mod RunList
+pub mod Unique

@@ -1,10 +1,6 @@
 // The head of a year, a day's month and the way back, a year's list and a run of years.
 mod records;
 
-pub use records::leap_mark;
-pub use records::list;
-pub use records::number_in;
-pub use records::run;
 use measure::Answer;
 use measure::DAY;
 use measure::LAST_YEAR;
@@ -16,6 +12,12 @@ use measure::SHORT_ROW;
 use measure::SOLSTICE_EPOCH;
 use measure::TERM_STEP;
 use moons::MEAN_START;
+pub use records::RECORD_WIDTH;
+pub use records::YEAR_ROOM;
+pub use records::leap_mark;
+pub use records::list;
+pub use records::number_in;
+pub use records::run;
 ghost use mathlib.Core.Path.{_≡_};
 ghost use mathlib.Core.List.{[], _∷_};
 ghost use Prim.Native.Nat.{suc, _+_, _-_, _*_, _/_, _≤_, _<_};
