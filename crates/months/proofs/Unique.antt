@@ -7,10 +7,9 @@ use denote.Ref.{now}
 use denote.Triple.Clauses.{AtExit}
 use Rattle.measure.specs.Reply.{Reply, answer, refused}
 use Rattle.measure.proofs.Determined.{OneReply, read-back, one-answer}
-use Rattle.months.specs.Month.{Kind, ordinary, leap, MonthOfDay, kindSaid, monthSaid, replySaid}
+use Rattle.months.specs.Month.{Kind, ordinary, leap, MonthOfDay, kindSaid, replySaid}
 use Rattle.months.specs.declared.Kind.{Kind as KindCase}
 use Rattle.months.specs.declared.Kind.the-variants.{Ordinary, Leap}
-use Rattle.months.specs.declared.Month.{Month}
 use Rattle.months.specs.declared.Reply.{Reply as ReplyCase}
 use Rattle.months.specs.declared.Reply.the-variants.{Month as InMonth, Refused}
 use Rattle.months.proofs.head.Kinds as head

@@ -1,13 +1,13 @@
 -- `months::records::write_years` meets its contract: after k turns the lists of k years are written. Assumes nothing.
 use mathlib.Core.Path.{_≡_, _∙_, ap}
-use Prim.Native.Nat.{ℕ, suc, _+_, _-_, _*_, _≤_, _<_}
+use Prim.Native.Nat.{ℕ, _+_, _-_, _*_, _≤_}
 use native.Mathlib.Omega.{arith}
 use borrow.Rule.Slice.PartMut.{same-len-mid}
 use lib.ListN.{length, length-take, length-drop}
 use denote.Ref.{now}
 use Rattle.measure.specs.Epoch.{shoushi}
 use Rattle.measure.specs.Row.{over}
-use Rattle.month_law.specs.Calendar.{Calendar, head, monthsIn}
+use Rattle.month_law.specs.Calendar.{Calendar}
 use Rattle.month_law.specs.Edition.{calendar}
 use Rattle.month_law.proofs.Edition.{shoushi-lawful}
 use Rattle.month_law.proofs.Lists.{months-in-most}
