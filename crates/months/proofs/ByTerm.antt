@@ -1,17 +1,15 @@
 -- A month's year, number and leap mark by the last middle term before its end.
 -- Assumes nothing.
-use mathlib.Core.Logic.{⊎-elim}
-use mathlib.Core.Path.{_≡_, refl, ap, sym, _∙_}
-use Prim.Native.Nat.{ℕ, suc, _+_, _-_, _*_, _/_, _≤_, _<_}
+use mathlib.Core.Path.{_≡_, ap, sym, _∙_}
+use Prim.Native.Nat.{ℕ, suc, _+_, _-_, _/_, _<_}
 use native.Mathlib.Omega.{arith}
-use Rattle.measure.specs.Choice.{if_then_else_, _<?_}
 use Rattle.month_law.specs.Calendar.{Calendar, lengthOf, monthOf, head, monthsIn, yearOf}
 use Rattle.month_law.specs.Lawful.{Lawful}
 use Rattle.month_law.proofs.Terms.{lastTerm, lacks, last-unique, InList, year-to-list}
 use Rattle.month_law.proofs.Lists.{leap-lacks, listed-place}
 use Rattle.month_law.proofs.Numbers.{number-by-term}
 use Rattle.month_law.proofs.Runs.{year-of}
-use Rattle.months.specs.Month.{Kind, MonthOfDay, kindAt, placed, monthOfDay}
+use Rattle.months.specs.Month.{MonthOfDay, kindAt, placed, monthOfDay}
 use Rattle.months.specs.Span.{LastBefore, kindBy}
 
 module _ (c : Calendar) (ok : Lawful c) where

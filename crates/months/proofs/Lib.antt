@@ -7,3 +7,4 @@ pub mod Listing
 pub mod RecordLaws
 pub mod YearList
 pub mod RunList
+pub mod Unique

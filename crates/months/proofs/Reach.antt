@@ -2,15 +2,15 @@
 -- the admitted years reach from lunation 0 to 12,367.
 -- Assumes nothing.
 use mathlib.Core.Path.{_≡_, ap, _∙_}
-use Prim.Native.Nat.{ℕ, zero, suc, _+_, _-_, _*_, _/_, _≤_, _<_}
+use Prim.Native.Nat.{ℕ, suc, _+_, _*_, _≤_, _<_}
 use native.Mathlib.Omega.{arith}
-use Rattle.measure.specs.Units.{day, month, lastYear, termStep}
+use Rattle.measure.specs.Units.{day, month, lastYear}
 use Rattle.measure.specs.Epoch.{shoushi, meanStart}
 use Rattle.moons.specs.Lunation.{lastLunation, mean}
 use Rattle.moons.proofs.Corrected.{correctionSize}
 use Rattle.month_law.specs.Calendar.{Calendar, monthOf, head, monthsIn}
 use Rattle.month_law.specs.Edition.{middleDay, calendar}
-use Rattle.month_law.proofs.MonthLength.{Near, near}
+use Rattle.month_law.proofs.MonthLength.{near}
 use Rattle.month_law.proofs.Rising.{rises-weakly, order-back}
 use Rattle.month_law.proofs.Months.{InMonth, first-rises, day-in-month, month-of, head-rises}
 use Rattle.month_law.proofs.Lists.{months-in-least}

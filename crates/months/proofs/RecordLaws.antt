@@ -9,7 +9,7 @@ use native.Mathlib.Omega.{arith}
 use lib.ListN.{length, length-append}
 use Rattle.measure.specs.Choice.{if_then_else_}
 use Rattle.month_law.specs.Count.{oneIf}
-use Rattle.month_law.specs.Calendar.{Calendar, lengthOf, head, monthsIn, yearOf, leapAt, numberAt, leapMark}
+use Rattle.month_law.specs.Calendar.{Calendar, head, monthsIn, yearOf, leapAt, numberAt}
 use Rattle.month_law.specs.Lawful.{Lawful}
 use Rattle.month_law.proofs.Lists.{place-listed, listed-place, months-in-most}
 use Rattle.month_law.proofs.Runs.{year-of}

@@ -10,6 +10,7 @@ use Rattle.measure.specs.Row.{over}
 use Rattle.measure.proofs.Row.{restFrom, withRest, grow}
 use Rattle.month_law.specs.Calendar.{Calendar, head, monthsIn}
 use Rattle.month_law.specs.Lawful.{Lawful}
+use Rattle.month_law.proofs.Lists.{months-in-most}
 use Rattle.months.specs.Span.{spanOf}
 use Rattle.months.specs.Records.{recordWidth, yearRoom, recordsOf, runOf, monthsInRun}
 use Rattle.months.specs.declared.Span.{Span}
@@ -20,6 +21,7 @@ use Rattle.months.proofs.RecordLaws.{run-more, months-more, length-run,
 pub record Running (c : Calendar) (n k : ℕ) (row₀ row : List ℕ) (start : Span) (months : ℕ) : Type 0 where
   pub right : start ≡ spanOf c (head c (n + k))
   pub counted : months ≡ monthsInRun c n k
+  pub within : months * recordWidth ≤ length row
   pub same : length row ≡ length row₀
   pub written : row ≡ over (runOf c n k) row₀
 
@@ -30,6 +32,7 @@ module _ (c : Calendar) (n : ℕ) where
       record {
         right = e ∙ ap (λ (m : ℕ). spanOf c (head c m)) (sym (add-zero n));
         counted = refl;
+        within = omega arith;
         same = refl;
         written = refl;
       }
@@ -43,14 +46,17 @@ module _ (c : Calendar) (ok : Lawful c) {n k : ℕ} {row₀ row : List ℕ} {sta
 
   module _ (end : Span) (e : end ≡ spanOf c (head c (suc (n + k)))) where
     -- one list more, in the rest of the row
-    pub run-goes-on : (rest : List ℕ) → length (withRest (months * recordWidth) row rest) ≡ length row
+    pub run-goes-on : (months + yearRoom) * recordWidth ≤ length row
+        → (rest : List ℕ) → length (withRest (months * recordWidth) row rest) ≡ length row
         → rest ≡ over (recordsOf c (n + k) (monthsIn c (n + k))) (restFrom (months * recordWidth) row)
         → Running c n (k + 1) row₀ (withRest (months * recordWidth) row rest) end (months + (end .lunation - start .lunation))
-    run-goes-on rest kept put =
+    run-goes-on room rest kept put =
         let next : suc (n + k) ≡ n + (k + 1) = omega arith in
         record {
           right = e ∙ ap (λ (m : ℕ). spanOf c (head c m)) next;
           counted = omega (arith, at .counted, months-between c (n + k) start end (at .right) e, months-more c n k);
+          within =
+              omega (arith, kept, months-between c (n + k) start end (at .right) e, months-in-most c ok (n + k));
           same = kept ∙ at .same;
           written =
               grow (runOf c n k) (recordsOf c (n + k) (monthsIn c (n + k))) row₀ row rest (months * recordWidth) (at .written)

@@ -27,6 +27,7 @@ pub record Listing (c : Calendar) (n : ℕ) (row₀ row : List ℕ) (span : Span
   pub until : span .lunation ≤ head c (suc n)
   pub right : span ≡ spanOf c (span .lunation)
   pub counted : used ≡ recordWidth * placeIn c n span
+  pub within : used ≤ length row
   pub same : length row ≡ length row₀
   pub written : row ≡ over (recordsOf c n (placeIn c n span)) row₀
 
@@ -41,6 +42,7 @@ module _ (c : Calendar) (ok : Lawful c) (n : ℕ) where
         until = omega (arith, head-rises c ok n);
         right = refl;
         counted = omega arith;
+        within = omega arith;
         same = refl;
         written = rw none;
       }
@@ -67,29 +69,28 @@ module _ (c : Calendar) (ok : Lawful c) (n : ℕ) where
           ∙ sym (records-more c n place)
           ∙ ap (recordsOf c n) next
 
-      goes-on-at : (rest : List ℕ) → length (withRest used row rest) ≡ length row
-          → rest ≡ over (recordOf c (span .lunation)) (restFrom used row)
-          → Listing c n row₀ (withRest used row rest) (spanOf c (suc (span .lunation))) (used + recordWidth)
-      goes-on-at rest kept put =
-          record {
-            since = omega (arith, at .since);
-            until = h;
-            right = refl;
-            counted = omega (arith, at .counted, at .since);
-            same = kept ∙ at .same;
-            written =
-                grow (recordsOf c n place) (recordOf c (span .lunation)) row₀ row rest used (at .written)
-                (length-records c n place ∙ sym (at .counted)) put
-                ∙ ap (λ (new : List ℕ). over new row₀) one-more;
-          }
-
       -- the month's record is put into the rest of the row
-      pub goes-on : (rest : List ℕ) (after : Span) → length (withRest used row rest) ≡ length row
-          → rest ≡ over (recordOf c (span .lunation)) (restFrom used row)
-          → after ≡ spanOf c (suc (span .lunation))
-          → Listing c n row₀ (withRest used row rest) after (used + recordWidth)
-      goes-on rest after kept put e =
-          subst (λ (s : Span). Listing c n row₀ (withRest used row rest) s (used + recordWidth)) (sym e) (goes-on-at rest kept put)
+      module _ (room : used + recordWidth ≤ length row) (rest : List ℕ) (kept : length (withRest used row rest) ≡ length row)
+          (put : rest ≡ over (recordOf c (span .lunation)) (restFrom used row)) where
+        goes-on-at : Listing c n row₀ (withRest used row rest) (spanOf c (suc (span .lunation))) (used + recordWidth)
+        goes-on-at =
+            record {
+              since = omega (arith, at .since);
+              until = h;
+              right = refl;
+              counted = omega (arith, at .counted, at .since);
+              within = omega (arith, kept);
+              same = kept ∙ at .same;
+              written =
+                  grow (recordsOf c n place) (recordOf c (span .lunation)) row₀ row rest used (at .written)
+                  (length-records c n place ∙ sym (at .counted)) put
+                  ∙ ap (λ (new : List ℕ). over new row₀) one-more;
+            }
+
+        pub goes-on : (after : Span) → after ≡ spanOf c (suc (span .lunation))
+            → Listing c n row₀ (withRest used row rest) after (used + recordWidth)
+        goes-on after e =
+            subst (λ (s : Span). Listing c n row₀ (withRest used row rest) s (used + recordWidth)) (sym e) goes-on-at
 
     -- at the next head all are
     pub ends : head c (suc n) ≤ span .lunation

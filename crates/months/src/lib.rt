@@ -8,21 +8,19 @@ use measure::MONTH;
 use measure::NO_DAY;
 use measure::NO_YEAR;
 use measure::OUTSIDE;
-use measure::SHORT_ROW;
 use measure::SOLSTICE_EPOCH;
 use measure::TERM_STEP;
 use moons::MEAN_START;
+pub use records::RECORD_WIDTH;
+pub use records::YEAR_ROOM;
 pub use records::leap_mark;
 pub use records::list;
 pub use records::number_in;
 pub use records::run;
 ghost use mathlib.Core.Path.{_≡_};
-ghost use mathlib.Core.List.{[], _∷_};
 ghost use Prim.Native.Nat.{suc, _+_, _-_, _*_, _/_, _≤_, _<_};
-ghost use lib.ListN.{length};
 ghost use Rattle.measure.specs.Choice.{if_then_else_, _<?_};
 ghost use Rattle.measure.specs.Reply.{answerSaid};
-ghost use Rattle.measure.specs.Row.{over, rowAfter};
 ghost use Rattle.measure.specs.Units.{lastYear};
 ghost use Rattle.measure.specs.Epoch.{shoushi};
 ghost use Rattle.moons.specs.Lunation.{lastLunation};
@@ -32,7 +30,6 @@ ghost use Rattle.month_law.specs.Edition.{middleDay, calendar};
 ghost use Rattle.months.specs.Head.{headReply};
 ghost use Rattle.months.specs.Month.{earliest, latest, monthOfDay, dayReply, backReply, hasDate, kindSaid, monthSaid, replySaid};
 ghost use Rattle.months.specs.Span.{spanOf, kindBy, LastBefore};
-ghost use Rattle.months.specs.Records.{recordWidth, yearRoom, recordAt, recordsOf, runOf, monthsInRun, listReply, runReply};
 
 // A month is ordinary or leap, with its number inside.
 pub enum Kind {

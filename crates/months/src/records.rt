@@ -23,13 +23,13 @@ ghost use Rattle.months.specs.Records.{recordWidth, yearRoom, recordOf, 
 // How many numbers a record has, and where each stands in it.
 pub const RECORD_WIDTH: usize = 4;
 
-pub const FIRST: usize = 0;
+const FIRST: usize = 0;
 
-pub const LENGTH: usize = 1;
+const LENGTH: usize = 1;
 
-pub const NUMBER: usize = 2;
+const NUMBER: usize = 2;
 
-pub const MARK: usize = 3;
+const MARK: usize = 3;
 
 // How many records a row needs for each year.
 pub const YEAR_ROOM: u64 = 13;
@@ -134,15 +134,15 @@ fn put_month(span: Span, row: &mut [u64])
 {
     let kind = crate::kind_by(span.first, crate::last_term(span.next));
     put_record(
-        row,
         span.first,
         span.next - span.first,
         number_in(kind),
         leap_mark(kind),
+        row,
     );
 }
 
-fn put_record(row: &mut [u64], first: u64, days: u64, number: u64, mark: u64)
+fn put_record(first: u64, days: u64, number: u64, mark: u64, row: &mut [u64])
     requires { ⌜ recordWidth ≤ length (now row) ⌝ }
     ensures { λ _. ⌜ now (row .exit) ≡ over (first ∷ days ∷ number ∷ mark ∷ []) (now (row .entry)) ⌝ }
 {

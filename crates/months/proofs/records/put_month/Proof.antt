@@ -1,16 +1,14 @@
 -- `months::records::put_month` meets its contract: the last middle term before the month's end tells its kind. Assumes nothing.
-use mathlib.Core.List.{List, [], _∷_}
+use mathlib.Core.List.{[], _∷_}
 use mathlib.Core.Path.{_≡_, _∙_, ap}
-use Prim.Native.Nat.{ℕ, _-_}
+use Prim.Native.Nat.{ℕ, suc, _-_}
 use native.Mathlib.Omega.{arith}
 use borrow.Author.Needs.{needs}
-use denote.Ref.{now}
 use Rattle.measure.specs.Epoch.{shoushi}
-use Rattle.measure.specs.Row.{over}
 use Rattle.month_law.specs.Calendar.{Calendar}
 use Rattle.month_law.specs.Edition.{calendar}
 use Rattle.month_law.proofs.Edition.{shoushi-lawful}
-use Rattle.months.specs.Month.{Kind, kindSaid}
+use Rattle.months.specs.Month.{Kind, kindSaid, numberIn, markIn}
 use Rattle.months.specs.Span.{spanOf, kindBy, LastBefore}
 use Rattle.months.specs.Records.{recordOf}
 use Rattle.months.specs.declared.Span.{Span}
@@ -23,15 +21,19 @@ use Rattle.months.proofs.records.put_month.Tie as tie
 abbrev cal : Calendar
 cal = calendar shoushi
 
-module _ (span : Span) (e : span ≡ spanOf cal (span .lunation)) where
-  told : (j : ℕ) (kind : Kind) → LastBefore cal (span .next) j → kind ≡ kindBy cal (span .first) j
-      → recordBy (span .first) (span .next) kind ≡ recordOf cal (span .lunation)
-  told j kind last k =
-      let l = span .lunation in
-      let first = first-is cal span l e in
-      let next = next-is cal span l e in
-      (λ i. recordBy (first i) (next i) ((k ∙ ap (λ (f : ℕ). kindBy cal f j) first) i))
-      ∙ record-told cal shoushi-lawful l j (last-of-month cal span l e j last)
+-- the numbers that are put are the record of the span's month
+told : (span : Span) (j number mark : ℕ) (kind : Kind) → span ≡ spanOf cal (span .lunation) → LastBefore cal (span .next) j
+    → kind ≡ kindBy cal (span .first) j
+    → number ≡ numberIn kind
+    → mark ≡ markIn kind
+    → span .first ∷ (span .next - span .first) ∷ number ∷ mark ∷ [] ≡ recordOf cal (span .lunation)
+told span j number mark kind e last k en em =
+    let l = span .lunation in
+    let first = first-is cal span l e in
+    let next = next-is cal span l e in
+    (λ i. first i ∷ (next i - first i) ∷ en i ∷ em i ∷ [])
+    ∙ ap (recordBy (cal .first l) (cal .first (suc l))) (k ∙ ap (λ (f : ℕ). kindBy cal f j) first)
+    ∙ record-told cal shoushi-lawful l j (last-of-month cal span l e j last)
 
 last-term-requires : tie.Need-last-term-requires
 last-term-requires c κs =
@@ -51,7 +53,7 @@ kind-by-requires c κs =
 
 sub-put-record : tie.Need-sub-put-record
 sub-put-record c =
-    let start = c .before .before .before .before .before in
+    let start = c .before .before .before .before in
     first-before cal (start .args .span) (start .args .span .lunation) (start .pre .0) shoushi-lawful
 
 number-in-requires : tie.Need-number-in-requires
@@ -68,17 +70,13 @@ same-length c = search needs
 
 returns : tie.Need-returns
 returns c =
-    let put = c .before .before .put-record in
-    let mark = c .before .before .before .leap-mark in
-    let number = c .before .before .before .before .number-in in
-    let by = c .before .before .before .before .before .before .before .kind-by in
+    let mark = c .before .before .before .before .leap-mark in
+    let number = c .before .before .before .before .before .number-in in
+    let kind = c .before .before .before .before .before .before .before .kind-by in
     let last = c .before .before .before .before .before .before .before .before .last-term in
     let start = c .before .before .before .before .before .before .before .before .before .before in
-    let row = now (start .args .row) in
-    put .ensures
-    ∙ ap (λ (new : List ℕ). over new row)
-    ((λ i. start .args .span .first ∷ (start .args .span .next - start .args .span .first) ∷ number .ensures i ∷ mark .ensures i ∷ [])
-    ∙ told (start .args .span) (start .pre .0) (last .result) (kindSaid (by .result)) (last .ensures) (by .ensures))
+    rw (told (start .args .span) (last .result) (number .result) (mark .result) (kindSaid (kind .result)) (start .pre .0)
+    (last .ensures) (kind .ensures) (number .ensures) (mark .ensures)) at (c .before .before .put-record .ensures)
 
 pub put-month-spec : {M : Type 1} → statement M
 put-month-spec =

@@ -57,24 +57,16 @@ loop-holds c =
     begins cal shoushi-lawful (start .args .n) (now (start .args .row)) (start .args .start) (start .pre .1)
 
 mul-put-month : tie.Need-mul-put-month Inv-loop μ-loop
-mul-put-month c =
-    let b = c .before .before in
-    omega (arith, fits (b .loop .inv) (b .before .middle-day .ensures) (c .if1 .taken) (b .before .before .before .pre .2))
+mul-put-month c = omega arith
 
 sub-put-month : tie.Need-sub-put-month Inv-loop μ-loop
-sub-put-month c =
-    let b = c .before .before in
-    omega (arith, fits (b .loop .inv) (b .before .middle-day .ensures) (c .if1 .taken) (b .before .before .before .pre .2))
+sub-put-month c = omega arith
 
 part-put-month-start : tie.Need-part-put-month-start Inv-loop μ-loop
-part-put-month-start c =
-    let b = c .before .before in
-    omega (arith, fits (b .loop .inv) (b .before .middle-day .ensures) (c .if1 .taken) (b .before .before .before .pre .2))
+part-put-month-start c = omega arith
 
 part-put-month-end : tie.Need-part-put-month-end Inv-loop μ-loop
-part-put-month-end c =
-    let b = c .before .before in
-    omega (arith, fits (b .loop .inv) (b .before .middle-day .ensures) (c .if1 .taken) (b .before .before .before .pre .2))
+part-put-month-end c = omega arith
 
 put-month-requires : tie.Need-put-month-requires Inv-loop μ-loop
 put-month-requires c κs =
@@ -115,11 +107,14 @@ loop-again c =
     let t = c .before .before .before .before .before in
     let b = t .before .before in
     let start = b .before .before .before in
+    let at = b .loop .inv in
+    let solstice = b .before .middle-day .ensures in
     let row = b .loop .row in
     let used = b .loop .used in
-    goes-on cal shoushi-lawful (start .args .n) (now (start .args .row)) row (b .loop .span) used (b .loop .inv)
-    (in-list (b .loop .inv) (b .before .middle-day .ensures) (t .if1 .taken)) (put .last .1 .0) (c .span-after .result)
-    (same-len-mid {X = ℕ} used (length row - used) row (put .last .1 .0) (put .kept .1 .0)) (put .ensures) (c .span-after .ensures)
+    goes-on cal shoushi-lawful (start .args .n) (now (start .args .row)) row (b .loop .span) used at
+    (in-list at solstice (t .if1 .taken)) (fits at solstice (t .if1 .taken) (start .pre .2)) (put .last .1 .0)
+    (same-len-mid {X = ℕ} used (length row - used) row (put .last .1 .0) (put .kept .1 .0)) (put .ensures)
+    (c .span-after .result) (c .span-after .ensures)
 
 same-length : tie.Need-same-length Inv-loop μ-loop
 same-length c = c .before .before .loop .inv .same

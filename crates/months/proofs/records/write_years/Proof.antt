@@ -1,13 +1,13 @@
 -- `months::records::write_years` meets its contract: after k turns the lists of k years are written. Assumes nothing.
 use mathlib.Core.Path.{_≡_, _∙_, ap}
-use Prim.Native.Nat.{ℕ, suc, _+_, _-_, _*_, _≤_, _<_}
+use Prim.Native.Nat.{ℕ, _+_, _-_, _*_, _≤_}
 use native.Mathlib.Omega.{arith}
 use borrow.Rule.Slice.PartMut.{same-len-mid}
 use lib.ListN.{length, length-take, length-drop}
 use denote.Ref.{now}
 use Rattle.measure.specs.Epoch.{shoushi}
 use Rattle.measure.specs.Row.{over}
-use Rattle.month_law.specs.Calendar.{Calendar, head, monthsIn}
+use Rattle.month_law.specs.Calendar.{Calendar}
 use Rattle.month_law.specs.Edition.{calendar}
 use Rattle.month_law.proofs.Edition.{shoushi-lawful}
 use Rattle.month_law.proofs.Lists.{months-in-most}
@@ -35,37 +35,22 @@ loop-holds c =
     (omega arith, run-begins cal (a .n) (now (a .row)) (c .head-span .result) (c .head-span .ensures))
 
 mul-used : tie.Need-mul-used Inv-loop μ-loop
-mul-used c =
-    let b = c .before in
-    let start = b .before .before .before in
-    omega (arith, run-room cal shoushi-lawful (b .loop .inv .1) (start .args .count) (c .loop-test .taken) (start .pre .1))
+mul-used c = omega arith
 
 add-write-year : tie.Need-add-write-year Inv-loop μ-loop
 add-write-year c = omega arith
 
 mul-write-year : tie.Need-mul-write-year Inv-loop μ-loop
-mul-write-year c =
-    let b = c .before in
-    let start = b .before .before .before in
-    omega (arith, run-room cal shoushi-lawful (b .loop .inv .1) (start .args .count) (c .loop-test .taken) (start .pre .1))
+mul-write-year c = omega arith
 
 sub-write-year : tie.Need-sub-write-year Inv-loop μ-loop
-sub-write-year c =
-    let b = c .before in
-    let start = b .before .before .before in
-    omega (arith, run-room cal shoushi-lawful (b .loop .inv .1) (start .args .count) (c .loop-test .taken) (start .pre .1))
+sub-write-year c = omega arith
 
 part-write-year-start : tie.Need-part-write-year-start Inv-loop μ-loop
-part-write-year-start c =
-    let b = c .before in
-    let start = b .before .before .before in
-    omega (arith, run-room cal shoushi-lawful (b .loop .inv .1) (start .args .count) (c .loop-test .taken) (start .pre .1))
+part-write-year-start c = omega arith
 
 part-write-year-end : tie.Need-part-write-year-end Inv-loop μ-loop
-part-write-year-end c =
-    let b = c .before in
-    let start = b .before .before .before in
-    omega (arith, run-room cal shoushi-lawful (b .loop .inv .1) (start .args .count) (c .loop-test .taken) (start .pre .1))
+part-write-year-end c = omega arith
 
 write-year-requires : tie.Need-write-year-requires Inv-loop μ-loop
 write-year-requires c κs =
@@ -107,11 +92,15 @@ loop-less c = omega arith
 loop-again : tie.Need-loop-again Inv-loop μ-loop
 loop-again c =
     let write = c .before .before .before .before .write-year in
-    let b = c .before .before .before .before .before .before .before in
+    let t = c .before .before .before .before .before .before in
+    let b = t .before in
+    let start = b .before .before .before in
     let row = b .loop .row in
     let used = b .loop .months * recordWidth in (
       omega arith,
-      run-goes-on cal shoushi-lawful (b .loop .inv .1) (write .result) (write .ensures .0) (write .last .1 .1 .0)
+      run-goes-on cal shoushi-lawful (b .loop .inv .1) (write .result) (write .ensures .0)
+          (run-room cal shoushi-lawful (b .loop .inv .1) (start .args .count) (t .loop-test .taken) (start .pre .1))
+          (write .last .1 .1 .0)
           (same-len-mid {X = ℕ} used (length row - used) row (write .last .1 .1 .0) (write .kept .1 .1 .0))
           (write .ensures .1),
     )
