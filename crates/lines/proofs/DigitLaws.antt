@@ -46,6 +46,16 @@ unfolding spelled
 spelled-refused k [] = refl
 spelled-refused k (b ∷ bs) = spelled-refused k bs
 
+-- and nothing else is refused
+pub spelled-only : (v k : ℕ) (bs : List ℕ) → spelled (answer v) bs ≡ refused k → k ≡ badLine
+unfolding spelled
+spelled-only v k [] e = let z : _≡_ {A = ℕ} 0 1 = cc in omega arith
+spelled-only v k (b ∷ bs) e = after (digitOf b) (λ u. spelled-only u k bs) e
+  where
+    after : (d : Digit) → ((u : ℕ) → spelled (answer u) bs ≡ refused k → k ≡ badLine) → spelled (withDigit (answer v) d) bs ≡ refused k → k ≡ badLine
+    after (worth w) more f = more (v * 16 + w) f
+    after noDigit more f = let g : _≡_ {A = Reply ℕ} (refused k) (refused badLine) = sym f ∙ spelled-refused badLine bs in cc
+
 -- one digit more
 pub spelled-step : (before : Reply ℕ) (line : List ℕ) (i : ℕ) → i < length line
     → spelled before (drop i line) ≡ spelled (withDigit before (digitOf (getD line i 0))) (drop (i + 1) line)

@@ -4,7 +4,7 @@ use mathlib.Core.Path.{_≡_, _∙_, sym, ap}
 use mathlib.Core.List.{List, [], _∷_, _++_, append-assoc, append-nil}
 use Prim.Native.Nat.{ℕ, suc, _+_, _-_, _≤_, _<_}
 use native.Mathlib.Omega.{arith}
-use lib.ListN.{length, take, drop, set, length-append}
+use lib.ListN.{length, take, drop, set, length-append, length-drop}
 use lib.Seq.{take-at, drop-at, take-length, drop-length, drop-drop, set-split, length-take-le, append-snoc}
 use borrow.Rule.Slice.PartMut.{putMid}
 use Rattle.measure.specs.Row.{over}
@@ -22,6 +22,10 @@ put-before new row v n k h =
     ap (λ (l : List ℕ). new ++ l) e
     ∙ sym (append-snoc new v (drop (suc n) row))
     ∙ ap (λ (j : ℕ). (new ++ (v ∷ [])) ++ drop j row) w
+
+pub length-over : (new row : List ℕ) → length new ≤ length row → length (over new row) ≡ length row
+unfolding over
+length-over new row h = omega (arith, length-append new (drop (length new) row), length-drop (length new) row)
 
 -- more is written into the rest of a row
 mid : (new more rest : List ℕ) (u : ℕ) → length new ≡ u

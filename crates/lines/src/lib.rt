@@ -7,6 +7,7 @@ use months::Kind;
 use months::Month;
 use months::Reply;
 ghost use mathlib.Core.Path.{_≡_};
+ghost use mathlib.Core.List.{_++_};
 ghost use Prim.Native.Nat.{_*_, _≤_, _<_};
 ghost use lib.ListN.{length};
 ghost use Rattle.measure.specs.Reply.{answer, refused, answerSaid};
@@ -119,7 +120,27 @@ fn put_digits(n: u64, w: usize, out: &mut [u8])
     }
 }
 
-// A month's line: 13 bytes.
+// Two digits.
+fn put_pair(a: u64, b: u64, out: &mut [u8])
+    requires { ⌜ 2 ≤ length (now out) ⌝ }
+    ensures { λ _. ⌜ now (out .exit) ≡ over (digitsOf 1 a ++ digitsOf 1 b) (now (out .entry)) ⌝ }
+{
+    put_digits(a, 1, out);
+    put_digits(b, 1, &mut out[1..]);
+}
+
+// Number and leap digit.
+fn put_kind(kind: Kind, out: &mut [u8])
+    requires { ⌜ 2 ≤ length (now out) ⌝ }
+    ensures { λ _. ⌜ now (out .exit) ≡ over (kindDigits (kindSaid kind)) (now (out .entry)) ⌝ }
+{
+    match kind {
+        Kind::Ordinary(n) => put_pair(n, 0, out),
+        Kind::Leap(n) => put_pair(n, 1, out),
+    }
+}
+
+// A month's line; how many bytes it has.
 fn put_month(m: Month, out: &mut [u8]) -> usize
     requires { ⌜ 13 ≤ length (now out) ⌝ }
     ensures { λ r. ⌜ r ≡ 13 ⌝ }
@@ -134,29 +155,13 @@ fn put_month(m: Month, out: &mut [u8]) -> usize
     13
 }
 
-fn put_kind(kind: Kind, out: &mut [u8])
-    requires { ⌜ 2 ≤ length (now out) ⌝ }
-    ensures { λ _. ⌜ now (out .exit) ≡ over (kindDigits (kindSaid kind)) (now (out .entry)) ⌝ }
-{
-    match kind {
-        Kind::Ordinary(n) => {
-            put_digits(n, 1, out);
-            put_digits(0, 1, &mut out[1..]);
-        }
-        Kind::Leap(n) => {
-            put_digits(n, 1, out);
-            put_digits(1, 1, &mut out[1..]);
-        }
-    }
-}
-
+// A refusal's line; how many bytes it has.
 fn put_refusal(k: u64, out: &mut [u8]) -> usize
     requires { ⌜ 3 ≤ length (now out) ⌝ }
     ensures { λ r. ⌜ r ≡ 3 ⌝ }
     ensures { λ _. ⌜ now (out .exit) ≡ over (lineOf (refused k)) (now (out .entry)) ⌝ }
 {
-    put_digits(0xE, 1, out);
-    put_digits(k, 1, &mut out[1..]);
+    put_pair(0xE, k, out);
     out[2] = LINE_END;
     3
 }

@@ -17,14 +17,14 @@ use borrow.Author.Needs.{needs}
 use Rattle.lines.proofs.day_asked.Statement.{statement}
 use Rattle.lines.proofs.day_asked.Tie as tie
 
-read-is : (c : tie.After-known-told) → digitOf (getD (now (c .before .before .before .before .before .before .before .before .before .args .line)) (c .before .before .before .before .before .before .loop .i) 0) ≡ worth (c .before .v .given .0 .0)
-read-is c = sym (c .before .before .before .digit-of .ensures) ∙ ap digitSaid (c .before .v .given .1)
-
 abbrev Inv-loop : tie.InvT-loop
 Inv-loop line day₀ i₀ day i = (i ≤ 5) × (spelled (answer 0) line ≡ spelled (answer day) (drop i line)) × (day < 16 ^ i)
 
 abbrev μ-loop : tie.MeasureT-loop
 μ-loop line day₀ i₀ day i = 5 - i
+
+read-is : (c : tie.After-known-told Inv-loop μ-loop) → digitOf (getD (now (c .before .before .before .before .before .before .before .before .before .args .line)) (c .before .before .before .before .before .before .loop .i) 0) ≡ worth (c .before .v .given .0 .0)
+read-is c = sym (c .before .before .before .digit-of .ensures) ∙ ap digitSaid (c .before .v .given .1)
 
 returns : tie.Need-returns Inv-loop μ-loop
 unfolding dayAsked
@@ -91,7 +91,7 @@ unfolding dayAsked spelled
 returns-3 c =
     let at = c .before in
     let line = now (at .before .before .before .args .line) in
-    let end : drop (at .loop .i) line ≡ [] = drop-of-length-le line (omega arith) in
+    let end : drop (at .loop .i) line ≡ [] = drop-of-length-le line {i = at .loop .i} (omega arith) in
     simp (eq-eqb _ _ (at .before .if1 .left)) (sym (at .loop .inv .1 ∙ ap (spelled (answer (at .loop .day))) end))
 
 pub day-asked-spec : {M : Type 1} → statement M

@@ -1,72 +1,91 @@
+-- `lines::put_reply` meets its contract. Assumes nothing.
+use mathlib.Core.Path.{_≡_, _∙_, sym, ap}
+use Prim.Native.Nat.{_≤_}
+use native.Mathlib.Omega.{arith}
+use denote.Ref.{now}
+use lib.ListN.{length}
+use Rattle.measure.specs.Reply.{Reply, answer, refused, noDay, badLine, answerSaid}
+use Rattle.measure.specs.Row.{over}
+use Rattle.measure.specs.Epoch.{shoushi}
+use Rattle.months.specs.Month.{MonthOfDay, monthSaid, replySaid}
+use Rattle.lines.specs.Line.{dayAsked, lineReply, lineOf}
+use Rattle.lines.proofs.LineLaws.{bad-line, asked-reply, outside-day, month-length, refusal-length}
 use borrow.Author.Needs.{needs}
 use Rattle.lines.proofs.put_reply.Statement.{statement}
 use Rattle.lines.proofs.put_reply.Tie as tie
-use Rattle.lines.proofs.put_reply.Reads as reads
-use Rattle.lines.proofs.put_reply.Lts as lts
-use Rattle.lines.proofs.day_asked.Reads as day-asked-reads
-use Rattle.lines.proofs.put_month.Reads as put-month-reads
-use Rattle.lines.proofs.put_refusal.Reads as put-refusal-reads
-use Rattle.months.proofs.month_of.Reads as month-of-reads
 
--- src/lib.rt:186:31
+-- what is said of a line: no day
+bad : (c : tie.After-enum-told) → lineReply shoushi (now (c .before .before .before .before .before .args .line)) ≡ refused badLine
+bad c = bad-line shoushi _ _ (sym (c .before .before .day-asked .ensures) ∙ ap answerSaid (c .enum-told .given .1))
+
+-- a day
+day : (c : tie.After-known-told) → dayAsked (now (c .before .before .before .before .before .before .args .line)) ≡ answer (c .before .day .given .0 .0)
+day c = sym (c .before .before .before .day-asked .ensures) ∙ ap answerSaid (c .before .day .given .1)
+
+-- outside the calendar
+outside : (c : tie.After-enum-told2)
+    → lineReply shoushi (now (c .before .before .before .before .before .before .before .before .before .args .line)) ≡ refused noDay
+outside c =
+    outside-day shoushi _ _ _ (day (c .before .before .before)) (sym (c .before .before .month-of .ensures) ∙ ap replySaid (c .enum-told2 .given .1))
+
+-- or in a month
+month : (c : tie.After-known-told2)
+    → lineReply shoushi (now (c .before .before .before .before .before .before .before .before .before .before .args .line))
+    ≡ answer (monthSaid (c .before .month .given .0 .0))
+month c =
+    asked-reply shoushi _ _ (day (c .before .before .before .before))
+    ∙ sym (c .before .before .before .month-of .ensures) ∙ ap replySaid (c .before .month .given .1)
+
 day-asked-requires : tie.Need-day-asked-requires
 day-asked-requires c κs = search needs
 
--- src/lib.rt:186:24
 enum-known-day : tie.Need-enum-known-day
 enum-known-day c = search needs
 
--- src/lib.rt:187:38
 enum-told : tie.Need-enum-told
 enum-told c = search needs
 
--- src/lib.rt:187:9
 put-refusal-requires : tie.Need-put-refusal-requires
-put-refusal-requires c κs = ?
+put-refusal-requires c κs = omega (arith, ap (λ (r : Reply MonthOfDay). length (lineOf r)) (bad (c .before)), refusal-length badLine)
 
--- src/lib.rt:187:9
 same-length : tie.Need-same-length
 same-length c = search needs
 
--- src/lib.rt:187:9
 returns : tie.Need-returns
-returns c = ?
+returns c =
+    let put = c .before .before in
+    rw (bad (put .before .before)) (put .put-refusal .ensures .0 ∙ sym (refusal-length badLine), put .put-refusal .ensures .1)
 
--- src/lib.rt:189:31
 month-of-requires : tie.Need-month-of-requires
 month-of-requires c κs = search needs
 
--- src/lib.rt:189:22
 enum-known-month : tie.Need-enum-known-month
 enum-known-month c = search needs
 
--- src/lib.rt:190:36
 enum-told-2 : tie.Need-enum-told-2
 enum-told-2 c = search needs
 
--- src/lib.rt:190:9
 put-refusal-requires-2 : tie.Need-put-refusal-requires-2
-put-refusal-requires-2 c κs = ?
+put-refusal-requires-2 c κs = omega (arith, ap (λ (r : Reply MonthOfDay). length (lineOf r)) (outside (c .before)), refusal-length noDay)
 
--- src/lib.rt:190:9
 same-length-2 : tie.Need-same-length-2
 same-length-2 c = search needs
 
--- src/lib.rt:190:9
 returns-2 : tie.Need-returns-2
-returns-2 c = ?
+returns-2 c =
+    let put = c .before .before in
+    rw (outside (put .before .before)) (put .put-refusal2 .ensures .0 ∙ sym (refusal-length noDay), put .put-refusal2 .ensures .1)
 
--- src/lib.rt:192:5
 put-month-requires : tie.Need-put-month-requires
-put-month-requires c κs = ?
+put-month-requires c κs = omega (arith, ap (λ (r : Reply MonthOfDay). length (lineOf r)) (month (c .before)), month-length (monthSaid (c .before .before .month .given .0 .0)))
 
--- src/lib.rt:181:1
 same-length-3 : tie.Need-same-length-3
 same-length-3 c = search needs
 
--- src/lib.rt:181:1
 returns-3 : tie.Need-returns-3
-returns-3 c = ?
+returns-3 c =
+    let put = c .before .before in
+    rw (month (put .before .before)) (put .put-month .ensures .0 ∙ sym (month-length _), put .put-month .ensures .1)
 
 pub put-reply-spec : {M : Type 1} → statement M
 put-reply-spec =

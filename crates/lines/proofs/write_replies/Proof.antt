@@ -1,68 +1,100 @@
+-- `lines::write_replies` meets its contract. Assumes nothing.
+use mathlib.Core.Path.{_≡_, _∙_, refl, sym, ap}
+use mathlib.Core.List.{List, _++_, append-nil}
+use Prim.Native.Nat.{ℕ, _+_, _-_, _*_, _≤_, _<_}
+use native.Mathlib.Omega.{arith}
+use borrow.Rule.Slice.PartMut.{same-len-mid}
+use denote.Ref.{now}
+use lib.ListN.{length, take, length-take, length-drop}
+use lib.Seq.{length-take-le}
+use Rattle.measure.specs.Row.{over}
+use Rattle.measure.specs.Epoch.{shoushi}
+use Rattle.lines.specs.Line.{lineLength, restAfter, output, replyRoom}
+use Rattle.lines.proofs.LineLaws.{length-most, rest-length, room-left, no-line, turn}
 use Rattle.lines.proofs.write_replies.Statement.{statement}
 use Rattle.lines.proofs.write_replies.Tie as tie
-use Rattle.lines.proofs.write_replies.Reads as reads
-use Rattle.lines.proofs.write_replies.Lts as lts
-use Rattle.lines.proofs.line_len.Reads as line-len-reads
-use Rattle.lines.proofs.put_reply.Reads as put-reply-reads
-use Rattle.lines.proofs.rest.Reads as rest-reads
 
 abbrev Inv-loop : tie.InvT-loop
-Inv-loop input out₀ left₀ used₀ out left used = ?
+Inv-loop input out₀ left₀ used₀ out left used =
+    (used + replyRoom * length left ≤ length out₀) × (length out ≡ length out₀)
+    × (output shoushi input ≡ take used out ++ output shoushi left)
+    × (out ≡ over (take used out) out₀)
 
 abbrev μ-loop : tie.MeasureT-loop
-μ-loop input out₀ left₀ used₀ out left used = ?
+μ-loop input out₀ left₀ used₀ out left used = length left
 
--- src/lib.rt:171:5
 loop-holds : tie.Need-loop-holds Inv-loop μ-loop
-loop-holds c = ?
+unfolding over
+loop-holds c = (omega arith, refl, refl, refl)
 
--- src/lib.rt:172:13
 line-len-requires : tie.Need-line-len-requires Inv-loop μ-loop
-line-len-requires c κs = ?
+line-len-requires c κs = tt
 
--- src/lib.rt:173:27
 slice-aggregate-put-reply : tie.Need-slice-aggregate-put-reply Inv-loop μ-loop
-slice-aggregate-put-reply c = ?
+slice-aggregate-put-reply c =
+    let left = now (c .before .before .before .loop .left) in
+    let h : c .before .line-len .result ≤ length left = omega (arith, length-most left) in
+    sym (length-take-le _ left h)
 
--- src/lib.rt:173:39
 sub-put-reply : tie.Need-sub-put-reply Inv-loop μ-loop
-sub-put-reply c = ?
+sub-put-reply c = omega arith
 
--- src/lib.rt:173:39
 part-put-reply-start : tie.Need-part-put-reply-start Inv-loop μ-loop
-part-put-reply-start c = ?
+part-put-reply-start c = omega arith
 
--- src/lib.rt:173:39
 part-put-reply-end : tie.Need-part-put-reply-end Inv-loop μ-loop
-part-put-reply-end c = ?
+part-put-reply-end c = omega arith
 
--- src/lib.rt:173:17
 put-reply-requires : tie.Need-put-reply-requires Inv-loop μ-loop
-put-reply-requires c κs = ?
+put-reply-requires c κs =
+    let at = c .before .before .before .before in
+    let room = room-left shoushi (now (at .loop .left)) (c .before .before .line-len .result) (c .before .before .line-len .ensures) (omega arith) in
+    simp (length-take, length-drop) (omega arith)
 
--- src/lib.rt:173:9
 add-used : tie.Need-add-used Inv-loop μ-loop
-add-used c = ?
+add-used c =
+    let at = c .before .before .before .before .before .before .before in
+    let line = at .before .before in
+    omega (arith, room-left shoushi (now (at .loop .left)) (c .before .before .before .before .before .line-len .result) (c .before .before .before .before .before .line-len .ensures) (omega arith), c .before .before .put-reply .ensures .0)
 
--- src/lib.rt:174:13
 rest-requires : tie.Need-rest-requires Inv-loop μ-loop
-rest-requires c κs = ?
+rest-requires c κs = tt
 
--- src/lib.rt:171:5
 loop-less : tie.Need-loop-less Inv-loop μ-loop
-loop-less c = ?
+loop-less c =
+    let at = c .before .before .before .before .before .before .before .before in
+    omega (arith, ap length (c .rest .ensures), rest-length (c .before .before .before .before .before .before .line-len .result) (now (at .loop .left)))
 
--- src/lib.rt:171:5
 loop-again : tie.Need-loop-again Inv-loop μ-loop
-loop-again c = ?
+loop-again c =
+    let put = c .before .before .before in
+    let line = put .before .before .before in
+    let at = line .before .before in
+    let a = at .before .before .before .args in
+    let left = now (at .loop .left) in
+    let some : 0 < length left = omega arith in
+    let e =
+    turn shoushi (now (a .input)) left (now (c .rest .result)) (now (a .out)) (at .loop .out) (put .put-reply .last .1 .0) (at .loop .used)
+    (line .line-len .result) (put .put-reply .result) (omega arith) (at .loop .inv .2) (at .loop .inv .3) some (line .line-len .ensures)
+    (put .put-reply .ensures .0) (put .put-reply .ensures .1) (c .rest .ensures) in (
+    omega (arith, room-left shoushi left (line .line-len .result) (line .line-len .ensures) some, put .put-reply .ensures .0, ap length (c .rest .ensures)),
+    same-len-mid {X = ℕ} (at .loop .used) (length (at .loop .out) - at .loop .used) (at .loop .out) (put .put-reply .last .1 .0) (put .put-reply .kept .1 .0) ∙ at .loop .inv .1,
+    e .0,
+    e .1,
+    )
 
--- src/lib.rt:164:1
 same-length : tie.Need-same-length Inv-loop μ-loop
-same-length c = ?
+same-length c = c .before .loop .inv .1
 
--- src/lib.rt:164:1
 returns : tie.Need-returns Inv-loop μ-loop
-returns c = ?
+returns c =
+    let at = c .before in
+    let a = at .before .before .before .args in
+    let p = take (at .loop .used) (at .loop .out) in
+    let z : output shoushi (now (a .input)) ≡ p =
+    at .loop .inv .2 ∙ ap (λ (l : List ℕ). p ++ l) (no-line shoushi _ (c .loop-test .left)) ∙ append-nil p in
+    let h : at .loop .used ≤ length (at .loop .out) = omega arith in
+    (sym (ap length z ∙ length-take-le _ _ h), at .loop .inv .3 ∙ ap (λ (l : List ℕ). over l (now (a .out))) (sym z))
 
 pub write-replies-spec : {M : Type 1} → statement M
 write-replies-spec =
