@@ -1,0 +1,70 @@
+// Reads days from standard input, a line each, and writes the month of each to standard output.
+mod block;
+
+use libc::STDIN_FILENO;
+use libc::STDOUT_FILENO;
+ghost use mathlib.Core.Path.{_≡_};
+ghost use Prim.Native.Nat.{_≤_};
+ghost use lib.ListN.{length};
+
+// How many bytes of an unfinished line are kept at the buffer's start, and whether to go on.
+struct Turn {
+    kept: usize,
+    more: bool,
+}
+
+// Room for the replies to a buffer of line ends.
+fn reply_buffer() -> [u8; 196608]
+    ensures { λ r. ⌜ 196608 ≡ length r ⌝ }
+{
+    [0; 196608]
+}
+
+// Reads once, after the kept bytes; how many bytes there are then.
+fn fill(buf: &mut [u8], kept: usize) -> usize
+    requires { ⌜ kept ≤ length (now buf) ⌝ }
+    ensures { λ r. ⌜ (kept ≤ r) × (r ≤ length (now (buf .entry))) ⌝ }
+{
+    let part = &mut buf[kept..];
+    let got = libc::read(STDIN_FILENO, part);
+    kept + io::count(got, part)
+}
+
+// One block. Where nothing more is read, what is kept is the last line.
+fn one_turn(buf: &mut [u8], out: &mut [u8], kept: usize) -> Turn
+    requires { ⌜ (length (now buf) ≡ 65536) × (length (now out) ≡ 196608) × (kept ≤ 6) ⌝ }
+    ensures { λ r. ⌜ r .kept ≤ 6 ⌝ }
+{
+    let have = fill(buf, kept);
+    if have == kept {
+        let last = block::answer_lines(&buf[..kept], out);
+        io::write_all(STDOUT_FILENO, &out[..last]);
+        return Turn {
+            kept: 0,
+            more: false,
+        };
+    }
+    let b = block::answer_block(buf, have, out);
+    let written = b.written;
+    let ok = io::write_all(STDOUT_FILENO, &out[..written]);
+    Turn {
+        kept: b.kept,
+        more: ok,
+    }
+}
+
+// Nothing says that the input ends, so the turns are counted down from a number that no run uses up. A failed write ends it.
+fn main() {
+    let mut buf = io::large_buffer();
+    let mut out = reply_buffer();
+    let mut kept: usize = 0;
+    let mut turns = u64::MAX;
+    while turns > 0 {
+        let turn = one_turn(&mut buf, &mut out, kept);
+        kept = turn.kept;
+        if !turn.more {
+            return;
+        }
+        turns -= 1;
+    }
+}
