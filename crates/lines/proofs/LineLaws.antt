@@ -8,7 +8,7 @@ use Prim.Native.Nat.{ℕ, suc, _+_, _-_, _*_, _≤_, _<_}
 use native.Mathlib.Nat.{not-suc-le-zero, suc-add}
 use native.Mathlib.Numerals.{add-one}
 use native.Mathlib.Omega.{arith}
-use borrow.Author.Tests.{eqb-true, ne-eqb}
+use borrow.Author.Tests.{eqb-true, le-ltb}
 use borrow.Rule.Slice.PartMut.{putMid}
 use lib.ListN.{length, getD, take, drop, length-append, length-drop}
 use lib.Seq.{drop-cons, length-take-le}
@@ -19,7 +19,7 @@ use Rattle.measure.specs.Epoch.{Epoch}
 use Rattle.measure.proofs.Choice.{passes-or-fails}
 use Rattle.months.specs.Month.{Kind, ordinary, leap, MonthOfDay, earliest, latest, dayReply}
 use Rattle.lines.specs.Digits.{Digit, worth, noDigit, digitOf, digitsOf}
-use Rattle.lines.specs.Line.{lineEnd, lineLength, restAfter, withDigit, spelled, dayAsked, lineReply, kindDigits, lineOf, lastLine, outputFrom, output, replyRoom}
+use Rattle.lines.specs.Line.{lineEnd, lineLength, restAfter, withDigit, spelled, dayAsked, lineReply, kindDigits, lineOf, lastLine, outputFrom, output, replyRoom, outputReply}
 use Rattle.lines.proofs.RowLaws.{grow, written}
 use Rattle.lines.proofs.DigitLaws.{length-digits, spelled-only}
 
@@ -169,3 +169,8 @@ module _ (e : Epoch) where
         done ∙ ap (λ (l : List ℕ). p ++ l) (rw (ex, en) (first-line left some)) ∙ sym (append-assoc p q (output e next)) ∙ ap (λ (l : List ℕ). l ++ output e next) (sym f),
         w ∙ ap (λ (l : List ℕ). over l row) (sym f),
       )
+
+  -- with room enough nothing is refused
+  pub answered-whole : (input : List ℕ) (room : ℕ) → replyRoom * length input ≤ room → outputReply e input room ≡ answer (length (output e input))
+  unfolding outputReply
+  answered-whole input room h = simp (le-ltb room (replyRoom * length input) h)

@@ -27,6 +27,10 @@ pub length-over : (new row : List ℕ) → length new ≤ length row → length 
 unfolding over
 length-over new row h = omega (arith, length-append new (drop (length new) row), length-drop (length new) row)
 
+pub over-least : (new row : List ℕ) → length new ≤ length (over new row)
+unfolding over
+over-least new row = omega (arith, length-append new (drop (length new) row))
+
 -- more is written into the rest of a row
 mid : (new more rest : List ℕ) (u : ℕ) → length new ≡ u
     → putMid u (length (new ++ rest) - u) (new ++ rest) (over more (take (length (new ++ rest) - u) (drop u (new ++ rest))))
