@@ -52,10 +52,10 @@ module _ (e : Epoch) where
   reply-six : (line : List ℕ) → lineReply e line ≡ lineReply e (take enough line)
   reply-six line =
       ⊎-elim
-      (λ few. ap (lineReply e) (sym (take-all enough line (omega arith))))
-      (λ many.
-        long e line (omega arith)
-        ∙ sym (long e (take enough line) (omega (arith, length-take-le enough line (omega arith)))))
+      (λ (few : length line < 7). ap (lineReply e) (sym (take-all enough line (omega arith))))
+      (λ (many : 7 ≤ length line).
+      long e line (omega arith)
+      ∙ sym (long e (take enough line) (omega (arith, length-take-le enough line (omega arith)))))
       (lt-or-ge (length line) 7)
 
   last-six : (begun : List ℕ) → lastLine e begun ≡ lastLine e (take enough begun)
@@ -103,9 +103,9 @@ module _ (e : Epoch) where
           → outputFrom e (before ++ (b ∷ [])) (bs ++ (lineEnd ∷ later))
           ≡ outputFrom e (before ++ (b ∷ [])) (bs ++ (lineEnd ∷ [])) ++ outputFrom e [] later
           → (if t then lineOf (lineReply e before) ++ outputFrom e [] (bs ++ (lineEnd ∷ later))
-             else outputFrom e (before ++ (b ∷ [])) (bs ++ (lineEnd ∷ later)))
+          else outputFrom e (before ++ (b ∷ [])) (bs ++ (lineEnd ∷ later)))
           ≡ (if t then lineOf (lineReply e before) ++ outputFrom e [] (bs ++ (lineEnd ∷ []))
-             else outputFrom e (before ++ (b ∷ [])) (bs ++ (lineEnd ∷ []))) ++ outputFrom e [] later
+          else outputFrom e (before ++ (b ∷ [])) (bs ++ (lineEnd ∷ []))) ++ outputFrom e [] later
       by true h g = ap (λ (l : List ℕ). lineOf (lineReply e before) ++ l) h ∙ sym (append-assoc (lineOf (lineReply e before)) _ _)
       by false h g = g
 

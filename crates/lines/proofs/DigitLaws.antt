@@ -33,9 +33,9 @@ small b =
     if-cases Small (worth (b - 48)) _ ((48 ≤? b) && (b <? 58))
     (λ t v e. omega (arith, ltb-true b 58 (right-passes (48 ≤? b) (b <? 58) t), worth-is e))
     (λ _.
-      if-cases Small (worth (b - 55)) noDigit ((65 ≤? b) && (b <? 71))
-      (λ t v e. omega (arith, ltb-true b 71 (right-passes (65 ≤? b) (b <? 71) t), worth-is e))
-      (λ _ v e. let z : _≡_ {A = ℕ} 0 1 = cc in omega arith))
+    if-cases Small (worth (b - 55)) noDigit ((65 ≤? b) && (b <? 71))
+    (λ t v e. omega (arith, ltb-true b 71 (right-passes (65 ≤? b) (b <? 71) t), worth-is e))
+    (λ _ v e. let z : _≡_ {A = ℕ} 0 1 = cc in omega arith))
   where
     worth-is : {m n : ℕ} → worth m ≡ worth n → m ≡ n
     worth-is e = cc

@@ -97,8 +97,8 @@ reply-room e line n h some =
     ⊎-elim
     (λ t. omega (arith, eqb-true (length line) 5 t, most (lineReply e line)))
     (λ t.
-      let b : lineReply e line ≡ refused badLine = bad-line e line badLine (rw t) in
-      omega (arith, ap (λ (r : Reply MonthOfDay). length (lineOf r)) b, refusal-length badLine))
+    let b : lineReply e line ≡ refused badLine = bad-line e line badLine (rw t) in
+    omega (arith, ap (λ (r : Reply MonthOfDay). length (lineOf r)) b, refusal-length badLine))
     (passes-or-fails (length line =? 5))
   where
     most : (r : Reply MonthOfDay) → length (lineOf r) ≤ 13

@@ -16,11 +16,11 @@ use Rattle.month_lines.specs.Block.{Whole, Answered}
 take-least : (m n : ℕ) (l : List ℕ) → take m (take n l) ≡ take (min n m) l
 take-least m n l =
     ⊎-elim
-    (λ few.
-      let e : n ≡ min n m = omega arith in
-      let fits : length (take n l) ≤ m = simp length-take (omega arith) in
-      take-all m (take n l) fits ∙ ap (λ (k : ℕ). take k l) e)
-    (λ many. let e : m ≡ min n m = omega arith in take-take m n l many ∙ ap (λ (k : ℕ). take k l) e)
+    (λ (few : n < m).
+    let e : n ≡ min n m = omega arith in
+    let fits : length (take n l) ≤ m = simp length-take (omega arith) in
+    take-all m (take n l) fits ∙ ap (λ (k : ℕ). take k l) e)
+    (λ (many : m ≤ n). let e : m ≡ min n m = omega arith in take-take m n l many ∙ ap (λ (k : ℕ). take k l) e)
     (lt-or-ge n m)
 
 drop-take : (m n : ℕ) (l : List ℕ) → m ≤ n → n ≤ length l → drop m (take n l) ≡ take (n - m) (drop m l)

@@ -28,10 +28,7 @@ pub fn answer_block(buf: &mut [u8], have: usize, out: &mut [u8]) -> Block
     let written = answer_lines(&buf[..whole], out);
     let kept = least(have - whole, ENOUGH);
     shift(buf, whole, kept);
-    Block {
-        written,
-        kept,
-    }
+    Block { written, kept }
 }
 
 // The replies to all lines, from the row's start; how many bytes they have.

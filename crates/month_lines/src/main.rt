@@ -5,7 +5,7 @@ use libc::STDIN_FILENO;
 use libc::STDOUT_FILENO;
 ghost use mathlib.Core.Path.{_≡_};
 ghost use Prim.Native.Nat.{_≤_};
-ghost use lib.ListN.{length};
+ghost use lib.ListN.{length, take};
 
 // How many bytes of an unfinished line are kept at the buffer's start, and whether to go on.
 struct Turn {
@@ -20,10 +20,10 @@ fn reply_buffer() -> [u8; 196608]
     [0; 196608]
 }
 
-// Reads once, after the kept bytes; how many bytes there are then.
+// Reads once, after the kept bytes, which stay; how many bytes there are then.
 fn fill(buf: &mut [u8], kept: usize) -> usize
     requires { ⌜ kept ≤ length (now buf) ⌝ }
-    ensures { λ r. ⌜ (kept ≤ r) × (r ≤ length (now (buf .entry))) ⌝ }
+    ensures { λ r. ⌜ (kept ≤ r) × (r ≤ length (now (buf .entry))) × (take kept (now (buf .exit)) ≡ take kept (now (buf .entry))) ⌝ }
 {
     let part = &mut buf[kept..];
     let got = libc::read(STDIN_FILENO, part);

@@ -79,11 +79,11 @@ loop-again c =
     let line = now (at .before .before .before .args .line) in
     let i = at .loop .i in
     let w : 16 ^ (i + 1) ≡ 16 ^ i * 16 = ap (λ (k : ℕ). 16 ^ k) (add-one i) ∙ pow-suc 16 i in (
-    omega arith,
-    at .loop .inv .1
-    ∙ spelled-step (answer (at .loop .day)) line i (omega arith)
-    ∙ ap (λ (d : Digit). spelled (withDigit (answer (at .loop .day)) d) (drop (i + 1) line)) (read-is c),
-    omega (arith, small _ _ (read-is c)),
+      omega arith,
+      at .loop .inv .1
+          ∙ spelled-step (answer (at .loop .day)) line i (omega arith)
+          ∙ ap (λ (d : Digit). spelled (withDigit (answer (at .loop .day)) d) (drop (i + 1) line)) (read-is c),
+      omega (arith, small _ _ (read-is c)),
     )
 
 returns-3 : tie.Need-returns-3 Inv-loop μ-loop

@@ -43,11 +43,12 @@ loop-again c =
     let v = at .loop .high in
     let s : at .loop .left ≡ suc k = omega arith in
     let e : over (digitsOf k (v / 16)) (set out k (digitByte (v % 16))) ≡ over (digitsOf (suc k) v) out =
-    put-before (digitsOf k (v / 16)) out (digitByte (v % 16)) k (length-digits k (v / 16)) (omega arith) in
-    (simp length-set (omega arith),
-    simp length-set (at .loop .inv .1),
-    ap (λ (b : ℕ). over (digitsOf k (v / 16)) (set out k b)) (c .digit-byte .ensures)
-    ∙ e ∙ ap (λ (m : ℕ). over (digitsOf m v) out) (sym s) ∙ at .loop .inv .2)
+    put-before (digitsOf k (v / 16)) out (digitByte (v % 16)) k (length-digits k (v / 16)) (omega arith) in (
+      simp length-set (omega arith),
+      simp length-set (at .loop .inv .1),
+      ap (λ (b : ℕ). over (digitsOf k (v / 16)) (set out k b)) (c .digit-byte .ensures)
+          ∙ e ∙ ap (λ (m : ℕ). over (digitsOf m v) out) (sym s) ∙ at .loop .inv .2,
+    )
 
 same-length : tie.Need-same-length Inv-loop μ-loop
 same-length c = omega arith

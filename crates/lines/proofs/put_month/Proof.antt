@@ -70,15 +70,16 @@ returns c =
     let y = digitsOf 3 (m .year) in
     let k = kindDigits (m .kind) in
     let f = digitsOf 5 (m .first) in
-    let l = digitsOf 2 (m .length) in
-    (refl,
-    put (y ++ k ++ f ++ l) row _ 10 12
-    (grow (y ++ k ++ f) l row _ 10 _ (to-first m)
-    (grow (y ++ k) f row _ 5 _ (to-kind m)
-    (grow y k row _ 3 _ (length-digits 3 (m .year)) (year .put-digits .ensures) (kind .put-kind .ensures))
-    (c .before .before .before .before .before .before .put-digits2 .ensures))
-    (c .before .before .put-digits3 .ensures))
-    (to-length m) (omega arith))
+    let l = digitsOf 2 (m .length) in (
+      refl,
+      put (y ++ k ++ f ++ l) row _ 10 12
+          (grow (y ++ k ++ f) l row _ 10 _ (to-first m)
+          (grow (y ++ k) f row _ 5 _ (to-kind m)
+          (grow y k row _ 3 _ (length-digits 3 (m .year)) (year .put-digits .ensures) (kind .put-kind .ensures))
+          (c .before .before .before .before .before .before .put-digits2 .ensures))
+          (c .before .before .put-digits3 .ensures))
+          (to-length m) (omega arith),
+    )
 
 same-length : tie.Need-same-length
 same-length c =

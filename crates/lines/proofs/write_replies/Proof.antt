@@ -77,10 +77,10 @@ loop-again c =
     turn shoushi (now (a .input)) left (now (c .rest .result)) (now (a .out)) (at .loop .out) (put .put-reply .last .1 .0) (at .loop .used)
     (line .line-len .result) (put .put-reply .result) (omega arith) (at .loop .inv .2) (at .loop .inv .3) some (line .line-len .ensures)
     (put .put-reply .ensures .0) (put .put-reply .ensures .1) (c .rest .ensures) in (
-    omega (arith, room-left shoushi left (line .line-len .result) (line .line-len .ensures) some, put .put-reply .ensures .0, ap length (c .rest .ensures)),
-    same-len-mid {X = ℕ} (at .loop .used) (length (at .loop .out) - at .loop .used) (at .loop .out) (put .put-reply .last .1 .0) (put .put-reply .kept .1 .0) ∙ at .loop .inv .1,
-    e .0,
-    e .1,
+      omega (arith, room-left shoushi left (line .line-len .result) (line .line-len .ensures) some, put .put-reply .ensures .0, ap length (c .rest .ensures)),
+      same-len-mid {X = ℕ} (at .loop .used) (length (at .loop .out) - at .loop .used) (at .loop .out) (put .put-reply .last .1 .0) (put .put-reply .kept .1 .0) ∙ at .loop .inv .1,
+      e .0,
+      e .1,
     )
 
 same-length : tie.Need-same-length Inv-loop μ-loop

@@ -64,11 +64,12 @@ returns c =
     let least = c .before .before .before .before in
     let lines = least .before .before .before in
     let cut = lines .before .before .before in
-    let a = cut .before .before .before .before .args in
-    ((omega arith, lines .answer-lines .ensures .0),
-    answered (now (a .buf)) (c .before .before .shift .last .0) (lines .answer-lines .last .1 .0) (a .have) (cut .whole-lines .result)
-    (lines .answer-lines .result) (least .least .result) (omega arith) (cut .whole-lines .ensures) (lines .answer-lines .ensures .1)
-    (least .least .ensures) (c .before .before .shift .ensures))
+    let a = cut .before .before .before .before .args in (
+      (omega arith, lines .answer-lines .ensures .0),
+      answered (now (a .buf)) (c .before .before .shift .last .0) (lines .answer-lines .last .1 .0) (a .have) (cut .whole-lines .result)
+          (lines .answer-lines .result) (least .least .result) (omega arith) (cut .whole-lines .ensures) (lines .answer-lines .ensures .1)
+          (least .least .ensures) (c .before .before .shift .ensures),
+    )
 
 pub answer-block-spec : {M : Type 1} → statement M
 answer-block-spec =

@@ -52,17 +52,17 @@ loop-again c =
     ∙ getD-drop i old (a .at) 0
     ∙ ap (λ (j : ℕ). getD old j 0) (sym swap)
     ∙ sym (getD-drop (a .at) old i 0) in (
-    omega arith,
-    simp length-set (at .loop .inv .1),
-    rw add-one
-    (take-suc-set buf i v fits
-    ∙ ap (λ (l : List ℕ). l ++ (v ∷ [])) (at .loop .inv .2)
-    ∙ ap (λ (b : ℕ). take i (drop (a .at) old) ++ (b ∷ [])) read
-    ∙ sym (take-suc (drop (a .at) old) i 0 there)),
-    drop-set-lt (i + 1) buf i v (omega arith)
-    ∙ sym (drop-drop 1 i buf)
-    ∙ ap (drop 1) (at .loop .inv .3)
-    ∙ drop-drop 1 i old,
+      omega arith,
+      simp length-set (at .loop .inv .1),
+      rw add-one
+          (take-suc-set buf i v fits
+          ∙ ap (λ (l : List ℕ). l ++ (v ∷ [])) (at .loop .inv .2)
+          ∙ ap (λ (b : ℕ). take i (drop (a .at) old) ++ (b ∷ [])) read
+          ∙ sym (take-suc (drop (a .at) old) i 0 there)),
+      drop-set-lt (i + 1) buf i v (omega arith)
+          ∙ sym (drop-drop 1 i buf)
+          ∙ ap (drop 1) (at .loop .inv .3)
+          ∙ drop-drop 1 i old,
     )
 
 same-length : tie.Need-same-length Inv-loop μ-loop
