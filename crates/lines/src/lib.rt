@@ -17,11 +17,11 @@ ghost use Rattle.months.specs.Month.{kindSaid, monthSaid};
 ghost use Rattle.lines.specs.Digits.{digitByte, digitsOf, digitOf, digitSaid};
 ghost use Rattle.lines.specs.Line.{lineLength, restAfter, dayAsked, lineReply, kindDigits, lineOf, output, replyRoom, outputReply};
 
-const LINE_END: u8 = 0x0A;
+pub const LINE_END: u8 = 0x0A;
 
 const DIGITS_ASKED: usize = 5;
 
-const REPLY_ROOM: usize = 3;
+pub const REPLY_ROOM: usize = 3;
 
 // How many bytes the first line of the input has: those before the line end, or all.
 pub fn line_len(input: &[u8]) -> usize
@@ -95,77 +95,7 @@ fn digit_of(b: u8) -> Digit
     }
 }
 
-fn digit_byte(v: u64) -> u8
-    requires { ⌜ v < 16 ⌝ }
-    ensures { λ r. ⌜ r ≡ digitByte v ⌝ }
-{
-    if v < 10 {
-        (v + 48) as u8
-    } else {
-        (v + 55) as u8
-    }
-}
-
-// The w last digits of n, at the row's start. They are found from the last to the first.
-fn put_digits(n: u64, w: usize, out: &mut [u8])
-    requires { ⌜ w ≤ length (now out) ⌝ }
-    ensures { λ _. ⌜ now (out .exit) ≡ over (digitsOf w n) (now (out .entry)) ⌝ }
-{
-    let mut high = n;
-    let mut left = w;
-    while 0 < left {
-        left -= 1;
-        out[left] = digit_byte(high % 16);
-        high /= 16;
-    }
-}
-
-// Two digits.
-fn put_pair(a: u64, b: u64, out: &mut [u8])
-    requires { ⌜ 2 ≤ length (now out) ⌝ }
-    ensures { λ _. ⌜ now (out .exit) ≡ over (digitsOf 1 a ++ digitsOf 1 b) (now (out .entry)) ⌝ }
-{
-    put_digits(a, 1, out);
-    put_digits(b, 1, &mut out[1..]);
-}
-
-// Number and leap digit.
-fn put_kind(kind: Kind, out: &mut [u8])
-    requires { ⌜ 2 ≤ length (now out) ⌝ }
-    ensures { λ _. ⌜ now (out .exit) ≡ over (kindDigits (kindSaid kind)) (now (out .entry)) ⌝ }
-{
-    match kind {
-        Kind::Ordinary(n) => put_pair(n, 0, out),
-        Kind::Leap(n) => put_pair(n, 1, out),
-    }
-}
-
-// A month's line; how many bytes it has.
-fn put_month(m: Month, out: &mut [u8]) -> usize
-    requires { ⌜ 13 ≤ length (now out) ⌝ }
-    ensures { λ r. ⌜ r ≡ 13 ⌝ }
-    ensures { λ _. ⌜ now (out .exit) ≡ over (lineOf (answer (monthSaid m))) (now (out .entry)) ⌝ }
-{
-    let kind = m.kind;
-    put_digits(m.year, 3, out);
-    put_kind(kind, &mut out[3..]);
-    put_digits(m.first, 5, &mut out[5..]);
-    put_digits(m.length, 2, &mut out[10..]);
-    out[12] = LINE_END;
-    13
-}
-
-// A refusal's line; how many bytes it has.
-fn put_refusal(k: u64, out: &mut [u8]) -> usize
-    requires { ⌜ 3 ≤ length (now out) ⌝ }
-    ensures { λ r. ⌜ r ≡ 3 ⌝ }
-    ensures { λ _. ⌜ now (out .exit) ≡ over (lineOf (refused k)) (now (out .entry)) ⌝ }
-{
-    put_pair(0xE, k, out);
-    out[2] = LINE_END;
-    3
-}
-
+// A turn for each line: the line is answered, and the rest handed on.
 fn write_replies(input: &[u8], out: &mut [u8]) -> usize
     requires { ⌜ replyRoom * length (now input) ≤ length (now out) ⌝ }
     ensures { λ r. ⌜ r ≡ length (output shoushi (now (input .entry))) ⌝ }
@@ -195,4 +125,75 @@ fn put_reply(line: &[u8], out: &mut [u8]) -> usize
         return put_refusal(NO_DAY, out);
     };
     put_month(month, out)
+}
+
+// A month's line; how many bytes it has.
+fn put_month(m: Month, out: &mut [u8]) -> usize
+    requires { ⌜ 13 ≤ length (now out) ⌝ }
+    ensures { λ r. ⌜ r ≡ 13 ⌝ }
+    ensures { λ _. ⌜ now (out .exit) ≡ over (lineOf (answer (monthSaid m))) (now (out .entry)) ⌝ }
+{
+    let kind = m.kind;
+    put_digits(m.year, 3, out);
+    put_kind(kind, &mut out[3..]);
+    put_digits(m.first, 5, &mut out[5..]);
+    put_digits(m.length, 2, &mut out[10..]);
+    out[12] = LINE_END;
+    13
+}
+
+// Number and leap digit.
+fn put_kind(kind: Kind, out: &mut [u8])
+    requires { ⌜ 2 ≤ length (now out) ⌝ }
+    ensures { λ _. ⌜ now (out .exit) ≡ over (kindDigits (kindSaid kind)) (now (out .entry)) ⌝ }
+{
+    match kind {
+        Kind::Ordinary(n) => put_pair(n, 0, out),
+        Kind::Leap(n) => put_pair(n, 1, out),
+    }
+}
+
+// A refusal's line; how many bytes it has.
+fn put_refusal(k: u64, out: &mut [u8]) -> usize
+    requires { ⌜ 3 ≤ length (now out) ⌝ }
+    ensures { λ r. ⌜ r ≡ 3 ⌝ }
+    ensures { λ _. ⌜ now (out .exit) ≡ over (lineOf (refused k)) (now (out .entry)) ⌝ }
+{
+    put_pair(0xE, k, out);
+    out[2] = LINE_END;
+    3
+}
+
+// Two numbers of one digit.
+fn put_pair(a: u64, b: u64, out: &mut [u8])
+    requires { ⌜ 2 ≤ length (now out) ⌝ }
+    ensures { λ _. ⌜ now (out .exit) ≡ over (digitsOf 1 a ++ digitsOf 1 b) (now (out .entry)) ⌝ }
+{
+    put_digits(a, 1, out);
+    put_digits(b, 1, &mut out[1..]);
+}
+
+// The w last digits of n, at the row's start. They are found from the last to the first.
+fn put_digits(n: u64, w: usize, out: &mut [u8])
+    requires { ⌜ w ≤ length (now out) ⌝ }
+    ensures { λ _. ⌜ now (out .exit) ≡ over (digitsOf w n) (now (out .entry)) ⌝ }
+{
+    let mut high = n;
+    let mut left = w;
+    while 0 < left {
+        left -= 1;
+        out[left] = digit_byte(high % 16);
+        high /= 16;
+    }
+}
+
+fn digit_byte(v: u64) -> u8
+    requires { ⌜ v < 16 ⌝ }
+    ensures { λ r. ⌜ r ≡ digitByte v ⌝ }
+{
+    if v < 10 {
+        (v + 48) as u8
+    } else {
+        (v + 55) as u8
+    }
 }

@@ -7,6 +7,10 @@ use lib.ListN.{length, getD, drop}
 use Rattle.measure.specs.Epoch.{shoushi}
 use Rattle.lines.specs.Line.{lineEnd, lineLength, output}
 
+-- a line of six bytes is refused, whatever follows: no more of it need be kept
+abbrev pub enough : ℕ
+enough = 6
+
 -- n bytes of a block are whole lines, and no line ends after them
 pub record Whole (block : List ℕ) (n : ℕ) : Type 0 where
   pub within : n ≤ length block

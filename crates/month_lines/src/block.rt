@@ -1,16 +1,15 @@
 // A block of the input: the lines that end in it are answered, and what the unfinished line needs is kept.
+use lines::LINE_END;
 use measure::Answer;
 ghost use mathlib.Core.Path.{_≡_};
 ghost use Prim.Native.Nat.{_+_, _*_, _≤_, min};
 ghost use lib.ListN.{length, take, drop};
 ghost use Rattle.measure.specs.Epoch.{shoushi};
 ghost use Rattle.lines.specs.Line.{output, replyRoom};
-ghost use Rattle.month_lines.specs.Block.{Whole, Answered};
+ghost use Rattle.month_lines.specs.Block.{enough, Whole, Answered};
 
 // A line of six bytes is refused, whatever follows.
 const ENOUGH: usize = 6;
-
-const LINE_END: u8 = 0x0A;
 
 // How many bytes were written, and how many of an unfinished line stand at the buffer's start.
 pub struct Block {
@@ -21,7 +20,7 @@ pub struct Block {
 // Answers the lines that end in the first `have` bytes.
 pub fn answer_block(buf: &mut [u8], have: usize, out: &mut [u8]) -> Block
     requires { ⌜ (have ≤ length (now buf)) × (replyRoom * length (now buf) ≤ length (now out)) ⌝ }
-    ensures { λ r. ⌜ (r .kept ≤ 6) × (r .written ≤ length (now (out .entry))) ⌝ }
+    ensures { λ r. ⌜ (r .kept ≤ enough) × (r .written ≤ length (now (out .entry))) ⌝ }
     ensures { λ r. ⌜ Answered (take have (now (buf .entry))) (take (r .written) (now (out .exit))) (take (r .kept) (now (buf .exit))) ⌝ }
 {
     let whole = whole_lines(&buf[..have]);

@@ -3,9 +3,12 @@ mod block;
 
 use libc::STDIN_FILENO;
 use libc::STDOUT_FILENO;
+use lines::REPLY_ROOM;
 ghost use mathlib.Core.Path.{_≡_};
-ghost use Prim.Native.Nat.{_≤_};
+ghost use Prim.Native.Nat.{_*_, _≤_};
 ghost use lib.ListN.{length, take};
+ghost use Rattle.lines.specs.Line.{replyRoom};
+ghost use Rattle.month_lines.specs.Block.{enough};
 
 // How many bytes of an unfinished line are kept at the buffer's start, and whether to go on.
 struct Turn {
@@ -13,11 +16,15 @@ struct Turn {
     more: bool,
 }
 
-// Room for the replies to a buffer of line ends.
-fn reply_buffer() -> [u8; 196608]
-    ensures { λ r. ⌜ 196608 ≡ length r ⌝ }
+const BUFFER: usize = 65_536;
+
+const ROOM: usize = REPLY_ROOM * BUFFER;
+
+// Room for the replies to a full buffer.
+fn reply_buffer() -> [u8; ROOM]
+    ensures { λ r. ⌜ 196_608 ≡ length r ⌝ }
 {
-    [0; 196608]
+    [0; ROOM]
 }
 
 // Reads once, after the kept bytes, which stay; how many bytes there are then.
@@ -32,8 +39,8 @@ fn fill(buf: &mut [u8], kept: usize) -> usize
 
 // One block. Where nothing more is read, what is kept is the last line.
 fn one_turn(buf: &mut [u8], out: &mut [u8], kept: usize) -> Turn
-    requires { ⌜ (length (now buf) ≡ 65536) × (length (now out) ≡ 196608) × (kept ≤ 6) ⌝ }
-    ensures { λ r. ⌜ r .kept ≤ 6 ⌝ }
+    requires { ⌜ (kept ≤ enough) × (enough ≤ length (now buf)) × (replyRoom * length (now buf) ≤ length (now out)) ⌝ }
+    ensures { λ r. ⌜ r .kept ≤ enough ⌝ }
 {
     let have = fill(buf, kept);
     if have == kept {

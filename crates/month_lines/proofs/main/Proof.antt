@@ -3,11 +3,12 @@ use mathlib.Core.Path.{_≡_, sym}
 use Prim.Native.Nat.{_≤_}
 use native.Mathlib.Omega.{arith}
 use lib.ListN.{length}
+use Rattle.month_lines.specs.Block.{enough}
 use Rattle.month_lines.proofs.main.Statement.{statement}
 use Rattle.month_lines.proofs.main.Tie as tie
 
 abbrev Inv-loop : tie.InvT-loop
-Inv-loop buf₀ out₀ kept₀ turns₀ buf out kept turns = (length buf ≡ 65536) × (length out ≡ 196608) × (kept ≤ 6)
+Inv-loop buf₀ out₀ kept₀ turns₀ buf out kept turns = (length buf ≡ 65_536) × (length out ≡ 196_608) × (kept ≤ enough)
 
 abbrev μ-loop : tie.MeasureT-loop
 μ-loop buf₀ out₀ kept₀ turns₀ buf out kept turns = turns

@@ -14,12 +14,9 @@ use Rattle.measure.specs.Choice.{if_then_else_, _=?_}
 use Rattle.measure.specs.Reply.{refused, badLine}
 use Rattle.measure.specs.Epoch.{Epoch}
 use Rattle.measure.proofs.Choice.{lt-or-ge}
 use Rattle.lines.specs.Line.{lineEnd, lineLength, dayAsked, lineReply, lineOf, lastLine, outputFrom, output}
 use Rattle.lines.proofs.LineLaws.{bad-line}
-
--- one more than the digits that are asked for: a line of as many bytes is refused, whatever follows
-abbrev pub enough : ℕ
-enough = 6
+use Rattle.month_lines.specs.Block.{enough}
 
 long : (e : Epoch) (line : List ℕ) → 5 < length line → lineReply e line ≡ refused badLine
 unfolding dayAsked
