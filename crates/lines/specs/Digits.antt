@@ -4,6 +4,8 @@ use mathlib.Core.Bool.{_&&_}
 use mathlib.Core.List.{List, [], _∷_, _++_}
 use Prim.Native.Nat.{ℕ, zero, suc, _+_, _-_, _*_, _/_, _%_}
 use Rattle.measure.specs.Choice.{if_then_else_, _≤?_, _<?_}
+use Rattle.lines.specs.declared.Digit.{Digit as DigitCase}
+use Rattle.lines.specs.declared.Digit.the-variants.{Worth, Nothing}
 
 -- the byte of a digit: 0-9, then A-F
 unfoldable pub digitByte : ℕ → ℕ
@@ -22,3 +24,8 @@ pub data Digit : Type 0 where
 unfoldable pub digitOf : ℕ → Digit
 digitOf b =
     if (48 ≤? b) && (b <? 58) then worth (b - 48) else if (65 ≤? b) && (b <? 71) then worth (b - 55) else noDigit
+
+-- the paper's digit that each case stands for
+abbrev pub digitSaid : DigitCase → Digit
+digitSaid (Worth v) = worth v
+digitSaid Nothing = noDigit

@@ -1,10 +1,10 @@
 -- "The line program": one frame a line, one day in and one month out.
 -- Assumes nothing.
 use mathlib.Core.List.{List, [], _∷_, _++_}
-use Prim.Native.Nat.{ℕ, _+_, _*_}
-use lib.ListN.{length}
-use Rattle.measure.specs.Choice.{if_then_else_, _=?_}
-use Rattle.measure.specs.Reply.{Reply, answer, refused, badLine}
+use Prim.Native.Nat.{ℕ, suc, _+_, _*_}
+use lib.ListN.{length, drop}
+use Rattle.measure.specs.Choice.{if_then_else_, _<?_, _=?_}
+use Rattle.measure.specs.Reply.{Reply, answer, refused, shortRow, badLine, refuseIf}
 use Rattle.measure.specs.Epoch.{Epoch}
 use Rattle.months.specs.Month.{Kind, ordinary, leap, MonthOfDay, dayReply}
 use Rattle.lines.specs.Digits.{digitsOf, Digit, worth, noDigit, digitOf}
@@ -12,6 +12,15 @@ use Rattle.lines.specs.Digits.{digitsOf, Digit, worth, noDigit, digitOf}
 -- a line ends at this byte, or at the end of the input
 abbrev pub lineEnd : ℕ
 lineEnd = 0x0A
+
+-- how many bytes the first line of an input has
+unfoldable pub lineLength : List ℕ → ℕ
+lineLength [] = 0
+lineLength (b ∷ bs) = if b =? lineEnd then 0 else suc (lineLength bs)
+
+-- what is handed on, as it stands, after a line of n bytes and its line end
+unfoldable pub restAfter : ℕ → List ℕ → List ℕ
+restAfter n input = drop (n + 1) input
 
 -- one digit more of a number
 abbrev pub withDigit : Reply ℕ → Digit → Reply ℕ
@@ -60,3 +69,11 @@ outputFrom e begun (b ∷ bs) =
 
 unfoldable pub output : Epoch → List ℕ → List ℕ
 output e input = outputFrom e [] input
+
+-- a lent row must have three bytes for each byte of the input: line ends alone fill it
+abbrev pub replyRoom : ℕ
+replyRoom = 3
+
+-- how many bytes are written, where the row has room for so many
+unfoldable pub outputReply : Epoch → List ℕ → ℕ → Reply ℕ
+outputReply e input room = refuseIf (room <? replyRoom * length input) shortRow (answer (length (output e input)))

@@ -1,0 +1,4 @@
+pub mod RowLaws
+pub mod DigitLaws
+pub mod LineLaws
+pub mod Unique

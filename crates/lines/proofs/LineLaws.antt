@@ -1,0 +1,176 @@
+-- Laws of lines and their replies: the first line of an input and what is handed on, what is refused, and how long a reply is.
+-- Assumes nothing.
+use mathlib.Core.Bool.{Bool, true, false}
+use mathlib.Core.Logic.{_⊎_, inl, inr, ⊎-elim}
+use mathlib.Core.Path.{_≡_, _∙_, refl, sym, ap}
+use mathlib.Core.List.{List, [], _∷_, _++_, append-assoc, append-nil}
+use Prim.Native.Nat.{ℕ, suc, _+_, _-_, _*_, _≤_, _<_}
+use native.Mathlib.Nat.{not-suc-le-zero, suc-add}
+use native.Mathlib.Numerals.{add-one}
+use native.Mathlib.Omega.{arith}
+use borrow.Author.Tests.{eqb-true, le-ltb}
+use borrow.Rule.Slice.PartMut.{putMid}
+use lib.ListN.{length, getD, take, drop, length-append, length-drop}
+use lib.Seq.{drop-cons, length-take-le}
+use Rattle.measure.specs.Choice.{if_then_else_, _<?_, _=?_}
+use Rattle.measure.specs.Reply.{Reply, answer, refused, noDay, badLine, refuseIf}
+use Rattle.measure.specs.Row.{over}
+use Rattle.measure.specs.Epoch.{Epoch}
+use Rattle.measure.proofs.Choice.{passes-or-fails}
+use Rattle.months.specs.Month.{Kind, ordinary, leap, MonthOfDay, earliest, latest, dayReply}
+use Rattle.lines.specs.Digits.{Digit, worth, noDigit, digitOf, digitsOf}
+use Rattle.lines.specs.Line.{lineEnd, lineLength, restAfter, withDigit, spelled, dayAsked, lineReply, kindDigits, lineOf, lastLine, outputFrom, output, replyRoom, outputReply}
+use Rattle.lines.proofs.RowLaws.{grow, written}
+use Rattle.lines.proofs.DigitLaws.{length-digits, spelled-only}
+
+-- one byte more of a line
+pub length-step : (input : List ℕ) (n : ℕ) → n < length input
+    → lineLength (drop n input) ≡ (if getD input n 0 =? lineEnd then 0 else suc (lineLength (drop (n + 1) input)))
+unfolding lineLength
+length-step input n h = rw (add-one, drop-cons input n 0)
+
+pub length-most : (input : List ℕ) → lineLength input ≤ length input
+unfolding lineLength
+length-most [] = omega arith
+length-most (b ∷ bs) = most (b =? lineEnd) (lineLength bs) (length bs) (length-most bs)
+  where
+    most : (t : Bool) (m n : ℕ) → m ≤ n → (if t then 0 else suc m) ≤ suc n
+    most true m n h = omega arith
+    most false m n h = omega arith
+
+-- what is refused: a line that asks for no day
+only-bad : (line : List ℕ) (k : ℕ) → dayAsked line ≡ refused k → k ≡ badLine
+unfolding dayAsked
+only-bad line k h = only (length line =? 5) h
+  where
+    only : (t : Bool) → (if t then spelled (answer 0) line else refused badLine) ≡ refused k → k ≡ badLine
+    only true f = spelled-only 0 k line f
+    only false f = cc
+
+pub bad-line : (e : Epoch) (line : List ℕ) (k : ℕ) → dayAsked line ≡ refused k → lineReply e line ≡ refused badLine
+unfolding lineReply
+bad-line e line k h = rw h (ap refused (only-bad line k h))
+
+-- and a day outside the calendar
+pub asked-reply : (e : Epoch) (line : List ℕ) (d : ℕ) → dayAsked line ≡ answer d → lineReply e line ≡ dayReply e d
+unfolding lineReply
+asked-reply e line d h = rw h
+
+pub outside-day : (e : Epoch) (line : List ℕ) (d k : ℕ) → dayAsked line ≡ answer d → dayReply e d ≡ refused k
+    → lineReply e line ≡ refused noDay
+unfolding dayReply
+outside-day e line d k h g = asked-reply e line d h ∙ only (d <? earliest) (latest <? d) _ g
+  where
+    only : (s t : Bool) (m : MonthOfDay) → refuseIf s noDay (refuseIf t noDay (answer m)) ≡ refused k
+        → refuseIf s noDay (refuseIf t noDay (answer m)) ≡ refused noDay
+    only true t m f = refl
+    only false true m f = refl
+    only false false m f = cc
+
+-- how long a reply is
+length-kind : (k : Kind) → length (kindDigits k) ≡ 2
+length-kind (ordinary n) = length-append (digitsOf 1 n) (digitsOf 1 0) ∙ omega (arith, length-digits 1 n, length-digits 1 0)
+length-kind (leap n) = length-append (digitsOf 1 n) (digitsOf 1 1) ∙ omega (arith, length-digits 1 n, length-digits 1 1)
+
+module _ (m : MonthOfDay) where
+  pub to-kind : length (digitsOf 3 (m .year) ++ kindDigits (m .kind)) ≡ 5
+  to-kind = simp (length-append, length-digits, length-kind)
+
+  pub to-first : length (digitsOf 3 (m .year) ++ kindDigits (m .kind) ++ digitsOf 5 (m .first)) ≡ 10
+  to-first = simp (length-append, length-digits, length-kind)
+
+  pub to-length : length (digitsOf 3 (m .year) ++ kindDigits (m .kind) ++ digitsOf 5 (m .first) ++ digitsOf 2 (m .length)) ≡ 12
+  to-length = simp (length-append, length-digits, length-kind)
+
+  pub month-length : length (lineOf (answer m)) ≡ 13
+  unfolding lineOf
+  month-length = simp (length-append, length-digits, length-kind)
+
+pub refusal-length : (k : ℕ) → length (lineOf (refused k)) ≡ 3
+unfolding lineOf
+refusal-length k = simp (length-append, length-digits)
+
+-- a reply has room in three bytes for each byte of its line, and of its line end where the line is empty
+pub reply-room : (e : Epoch) (line : List ℕ) (n : ℕ) → length line ≤ n → 0 < n → length (lineOf (lineReply e line)) ≤ replyRoom * n
+unfolding dayAsked
+reply-room e line n h some =
+    ⊎-elim
+    (λ t. omega (arith, eqb-true (length line) 5 t, most (lineReply e line)))
+    (λ t.
+    let b : lineReply e line ≡ refused badLine = bad-line e line badLine (rw t) in
+    omega (arith, ap (λ (r : Reply MonthOfDay). length (lineOf r)) b, refusal-length badLine))
+    (passes-or-fails (length line =? 5))
+  where
+    most : (r : Reply MonthOfDay) → length (lineOf r) ≤ 13
+    most (answer m) = omega (arith, month-length m)
+    most (refused k) = omega (arith, refusal-length k)
+
+-- what is handed on is shorter, and room is left for its replies
+pub rest-length : (n : ℕ) (input : List ℕ) → length (restAfter n input) ≡ length input - (n + 1)
+unfolding restAfter
+rest-length n input = length-drop (n + 1) input
+
+pub room-left : (e : Epoch) (left : List ℕ) (n : ℕ) → n ≡ lineLength left → 0 < length left
+    → length (lineOf (lineReply e (take n left))) + replyRoom * length (restAfter n left) ≤ replyRoom * length left
+room-left e left n h some =
+    let k : length (restAfter n left) ≡ length left - (n + 1) = rest-length n left in
+    let fits : n ≤ length left = omega (arith, length-most left) in
+    omega (
+      arith,
+      reply-room e (take n left) (length left - length (restAfter n left)) (omega (arith, length-take-le n left fits)) (omega arith),
+    )
+
+-- the first line's reply, and those of what is handed on
+module _ (e : Epoch) where
+  line-or-more : (t : Bool) (begun bs : List ℕ) (b : ℕ)
+      → outputFrom e (begun ++ (b ∷ [])) bs
+      ≡ lineOf (lineReply e ((begun ++ (b ∷ [])) ++ take (lineLength bs) bs)) ++ outputFrom e [] (restAfter (lineLength bs) bs)
+      → (if t then lineOf (lineReply e begun) ++ outputFrom e [] bs else outputFrom e (begun ++ (b ∷ [])) bs)
+      ≡ lineOf (lineReply e (begun ++ take (if t then 0 else suc (lineLength bs)) (b ∷ bs)))
+      ++ outputFrom e [] (restAfter (if t then 0 else suc (lineLength bs)) (b ∷ bs))
+  unfolding restAfter
+  line-or-more true begun bs b h = rw append-nil
+  line-or-more false begun bs b h = h ∙ rw (append-assoc begun (b ∷ []) (take (lineLength bs) bs), suc-add (lineLength bs) 1)
+
+  from-first : (begun input : List ℕ) → 0 < length begun + length input
+      → outputFrom e begun input
+      ≡ lineOf (lineReply e (begun ++ take (lineLength input) input)) ++ outputFrom e [] (restAfter (lineLength input) input)
+  unfolding outputFrom lastLine restAfter lineLength
+  from-first [] [] h = absurd (not-suc-le-zero h)
+  from-first (b ∷ bs) [] h = rw (append-nil, append-nil)
+  from-first begun (b ∷ bs) h =
+      line-or-more (b =? lineEnd) begun bs b (from-first (begun ++ (b ∷ [])) bs (omega (arith, length-append begun (b ∷ []))))
+
+  pub first-line : (input : List ℕ) → 0 < length input
+      → output e input ≡ lineOf (lineReply e (take (lineLength input) input)) ++ output e (restAfter (lineLength input) input)
+  unfolding output
+  first-line input h = from-first [] input (omega arith)
+
+  pub no-line : (input : List ℕ) → length input ≤ 0 → output e input ≡ []
+  unfolding output outputFrom lastLine
+  no-line [] h = refl
+  no-line (b ∷ bs) h = absurd (not-suc-le-zero h)
+
+  -- a turn: the first line of what is left is answered, and the rest is handed on
+  pub turn : (input left next row now part : List ℕ) (used n r : ℕ)
+      → used ≤ length now → output e input ≡ take used now ++ output e left → now ≡ over (take used now) row
+      → 0 < length left → n ≡ lineLength left → r ≡ length (lineOf (lineReply e (take n left)))
+      → part ≡ over (lineOf (lineReply e (take n left))) (take (length now - used) (drop used now)) → next ≡ restAfter n left
+      → (output e input ≡ take (used + r) (putMid used (length now - used) now part) ++ output e next)
+      × (putMid used (length now - used) now part ≡ over (take (used + r) (putMid used (length now - used) now part)) row)
+  turn input left next row now part used n r fits done whole some en er ep ex =
+      let p = take used now in
+      let q = lineOf (lineReply e (take n left)) in
+      let after = putMid used (length now - used) now part in
+      let lp : length p ≡ used = length-take-le used now fits in
+      let w : after ≡ over (p ++ q) row = grow p q row now used part lp whole ep in
+      let lq : length (p ++ q) ≡ used + r = omega (arith, length-append p q) in
+      let f : take (used + r) after ≡ p ++ q = written (p ++ q) row after (used + r) lq w in (
+        done ∙ ap (λ (l : List ℕ). p ++ l) (rw (ex, en) (first-line left some)) ∙ sym (append-assoc p q (output e next)) ∙ ap (λ (l : List ℕ). l ++ output e next) (sym f),
+        w ∙ ap (λ (l : List ℕ). over l row) (sym f),
+      )
+
+  -- with room enough nothing is refused
+  pub answered-whole : (input : List ℕ) (room : ℕ) → replyRoom * length input ≤ room → outputReply e input room ≡ answer (length (output e input))
+  unfolding outputReply
+  answered-whole input room h = simp (le-ltb room (replyRoom * length input) h)

@@ -1,0 +1,108 @@
+-- `lines::put_reply` meets its contract. Assumes nothing.
+use mathlib.Core.Path.{_≡_, _∙_, sym, ap}
+use Prim.Native.Nat.{_≤_}
+use native.Mathlib.Omega.{arith}
+use denote.Ref.{now}
+use lib.ListN.{length}
+use Rattle.measure.specs.Reply.{Reply, answer, refused, noDay, badLine, answerSaid}
+use Rattle.measure.specs.Row.{over}
+use Rattle.measure.specs.Epoch.{shoushi}
+use Rattle.months.specs.Month.{MonthOfDay, monthSaid, replySaid}
+use Rattle.lines.specs.Line.{dayAsked, lineReply, lineOf}
+use Rattle.lines.proofs.LineLaws.{bad-line, asked-reply, outside-day, month-length, refusal-length}
+use borrow.Author.Needs.{needs}
+use Rattle.lines.proofs.put_reply.Statement.{statement}
+use Rattle.lines.proofs.put_reply.Tie as tie
+
+-- what is said of a line: no day
+bad : (c : tie.After-enum-told) → lineReply shoushi (now (c .before .before .before .before .before .args .line)) ≡ refused badLine
+bad c = bad-line shoushi _ _ (sym (c .before .before .day-asked .ensures) ∙ ap answerSaid (c .enum-told .given .1))
+
+-- a day
+day : (c : tie.After-known-told) → dayAsked (now (c .before .before .before .before .before .before .args .line)) ≡ answer (c .before .day .given .0 .0)
+day c = sym (c .before .before .before .day-asked .ensures) ∙ ap answerSaid (c .before .day .given .1)
+
+-- outside the calendar
+outside : (c : tie.After-enum-told2)
+    → lineReply shoushi (now (c .before .before .before .before .before .before .before .before .before .args .line)) ≡ refused noDay
+outside c =
+    outside-day shoushi _ _ _ (day (c .before .before .before)) (sym (c .before .before .month-of .ensures) ∙ ap replySaid (c .enum-told2 .given .1))
+
+-- or in a month
+month : (c : tie.After-known-told2)
+    → lineReply shoushi (now (c .before .before .before .before .before .before .before .before .before .before .args .line))
+    ≡ answer (monthSaid (c .before .month .given .0 .0))
+month c =
+    asked-reply shoushi _ _ (day (c .before .before .before .before))
+    ∙ sym (c .before .before .before .month-of .ensures) ∙ ap replySaid (c .before .month .given .1)
+
+day-asked-requires : tie.Need-day-asked-requires
+day-asked-requires c κs = search needs
+
+enum-known-day : tie.Need-enum-known-day
+enum-known-day c = search needs
+
+enum-told : tie.Need-enum-told
+enum-told c = search needs
+
+put-refusal-requires : tie.Need-put-refusal-requires
+put-refusal-requires c κs = omega (arith, ap (λ (r : Reply MonthOfDay). length (lineOf r)) (bad (c .before)), refusal-length badLine)
+
+same-length : tie.Need-same-length
+same-length c = search needs
+
+returns : tie.Need-returns
+returns c =
+    let put = c .before .before in
+    rw (bad (put .before .before)) (put .put-refusal .ensures .0 ∙ sym (refusal-length badLine), put .put-refusal .ensures .1)
+
+month-of-requires : tie.Need-month-of-requires
+month-of-requires c κs = search needs
+
+enum-known-month : tie.Need-enum-known-month
+enum-known-month c = search needs
+
+enum-told-2 : tie.Need-enum-told-2
+enum-told-2 c = search needs
+
+put-refusal-requires-2 : tie.Need-put-refusal-requires-2
+put-refusal-requires-2 c κs = omega (arith, ap (λ (r : Reply MonthOfDay). length (lineOf r)) (outside (c .before)), refusal-length noDay)
+
+same-length-2 : tie.Need-same-length-2
+same-length-2 c = search needs
+
+returns-2 : tie.Need-returns-2
+returns-2 c =
+    let put = c .before .before in
+    rw (outside (put .before .before)) (put .put-refusal2 .ensures .0 ∙ sym (refusal-length noDay), put .put-refusal2 .ensures .1)
+
+put-month-requires : tie.Need-put-month-requires
+put-month-requires c κs = omega (arith, ap (λ (r : Reply MonthOfDay). length (lineOf r)) (month (c .before)), month-length (monthSaid (c .before .before .month .given .0 .0)))
+
+same-length-3 : tie.Need-same-length-3
+same-length-3 c = search needs
+
+returns-3 : tie.Need-returns-3
+returns-3 c =
+    let put = c .before .before in
+    rw (month (put .before .before)) (put .put-month .ensures .0 ∙ sym (month-length _), put .put-month .ensures .1)
+
+pub put-reply-spec : {M : Type 1} → statement M
+put-reply-spec =
+    tie.close
+    (tie.spec
+    day-asked-requires
+    enum-known-day
+    enum-told
+    put-refusal-requires
+    same-length
+    returns
+    month-of-requires
+    enum-known-month
+    enum-told-2
+    put-refusal-requires-2
+    same-length-2
+    returns-2
+    put-month-requires
+    same-length-3
+    returns-3)

@@ -1,0 +1,89 @@
+-- `month_lines::block::answer_block` meets its contract. Assumes nothing.
+use mathlib.Core.Path.{sym}
+use Prim.Native.Nat.{_≤_}
+use native.Mathlib.Omega.{arith}
+use denote.Ref.{now}
+use lib.ListN.{length}
+use lib.Seq.{length-take-le}
+use Rattle.month_lines.proofs.Kept.{answered}
+use borrow.Author.Needs.{needs}
+use Rattle.month_lines.proofs.block.answer_block.Statement.{statement}
+use Rattle.month_lines.proofs.block.answer_block.Tie as tie
+
+-- the whole lines lie in the block, and the block in the buffer
+in-block : (c : tie.After-whole-lines) → c .whole-lines .result ≤ c .before .before .before .before .args .have
+in-block c =
+    let a = c .before .before .before .before .args in
+    let fits : a .have ≤ length (now (a .buf)) = omega arith in
+    omega (arith, c .whole-lines .ensures .within, length-take-le (a .have) (now (a .buf)) fits)
+
+in-buffer : (c : tie.After-whole-lines) → c .whole-lines .result ≤ length (now (c .before .before .before .before .args .buf))
+in-buffer c = omega (arith, in-block c)
+
+slice-reshare-prefix-whole-lines : tie.Need-slice-reshare-prefix-whole-lines
+slice-reshare-prefix-whole-lines c = search needs
+
+slice-aggregate-whole-lines : tie.Need-slice-aggregate-whole-lines
+slice-aggregate-whole-lines c =
+    let a = c .before .before .before .args in
+    let fits : a .have ≤ length (now (a .buf)) = omega arith in
+    sym (length-take-le _ _ fits)
+
+whole-lines-requires : tie.Need-whole-lines-requires
+whole-lines-requires c κs = search needs
+
+slice-reshare-prefix-answer-lines : tie.Need-slice-reshare-prefix-answer-lines
+slice-reshare-prefix-answer-lines c = in-buffer c
+
+slice-aggregate-answer-lines : tie.Need-slice-aggregate-answer-lines
+slice-aggregate-answer-lines c = sym (length-take-le _ _ (in-buffer (c .before)))
+
+answer-lines-requires : tie.Need-answer-lines-requires
+answer-lines-requires c κs =
+    let cut = c .before .before in
+    let buf = now (cut .before .before .before .before .args .buf) in
+    omega (arith, in-buffer cut, length-take-le (cut .whole-lines .result) buf (in-buffer cut))
+
+sub-least : tie.Need-sub-least
+sub-least c = in-block (c .before .before .before .before .before)
+
+least-requires : tie.Need-least-requires
+least-requires c κs = search needs
+
+shift-requires : tie.Need-shift-requires
+shift-requires c κs = omega (arith, in-block (c .before .before .before .before .before .before .before))
+
+same-length : tie.Need-same-length
+same-length c = search needs
+
+same-length-2 : tie.Need-same-length-2
+same-length-2 c = search needs
+
+returns : tie.Need-returns
+returns c =
+    let least = c .before .before .before .before in
+    let lines = least .before .before .before in
+    let cut = lines .before .before .before in
+    let a = cut .before .before .before .before .args in (
+      (omega arith, lines .answer-lines .ensures .0),
+      answered (now (a .buf)) (c .before .before .shift .last .0) (lines .answer-lines .last .1 .0) (a .have) (cut .whole-lines .result)
+          (lines .answer-lines .result) (least .least .result) (omega arith) (cut .whole-lines .ensures) (lines .answer-lines .ensures .1)
+          (least .least .ensures) (c .before .before .shift .ensures),
+    )
+
+pub answer-block-spec : {M : Type 1} → statement M
+answer-block-spec =
+    tie.close
+    (tie.spec
+    slice-reshare-prefix-whole-lines
+    slice-aggregate-whole-lines
+    whole-lines-requires
+    slice-reshare-prefix-answer-lines
+    slice-aggregate-answer-lines
+    answer-lines-requires
+    sub-least
+    least-requires
+    shift-requires
+    same-length
+    same-length-2
+    returns)

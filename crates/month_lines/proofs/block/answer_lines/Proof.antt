@@ -1,0 +1,56 @@
+-- `month_lines::block::answer_lines` meets its contract. Assumes nothing.
+use mathlib.Core.Path.{_≡_, _∙_, sym, ap}
+use Prim.Native.Nat.{ℕ}
+use native.Mathlib.Omega.{arith}
+use denote.Ref.{now}
+use lib.ListN.{length}
+use Rattle.measure.specs.Reply.{Reply, answer, refused, answerSaid}
+use Rattle.measure.specs.Row.{over, rowAfter}
+use Rattle.measure.specs.Epoch.{shoushi}
+use Rattle.lines.specs.Line.{output, outputReply}
+use Rattle.lines.proofs.RowLaws.{written, over-least}
+use Rattle.lines.proofs.LineLaws.{answered-whole}
+use borrow.Author.Needs.{needs}
+use Rattle.month_lines.proofs.block.answer_lines.Statement.{statement}
+use Rattle.month_lines.proofs.block.answer_lines.Tie as tie
+
+replies-requires : tie.Need-replies-requires
+replies-requires c κs = search needs
+
+enum-known-n : tie.Need-enum-known-n
+enum-known-n c = search needs
+
+enum-told : tie.Need-enum-told
+enum-told c = search needs
+
+same-length : tie.Need-same-length
+same-length c = search needs
+
+returns : tie.Need-returns
+returns c =
+    let out = c .before .before .before .before in
+    let a = out .before .before .before .before .args in
+    let room = answered-whole shoushi (now (a .input)) (length (now (a .out))) (omega arith) in
+    let never = sym (ap answerSaid (c .enum-told .given .1)) ∙ out .replies .ensures .0 ∙ room in
+    let z : _≡_ {A = ℕ} 0 1 = cc in
+    absurd (omega arith)
+
+same-length-2 : tie.Need-same-length-2
+same-length-2 c = search needs
+
+returns-2 : tie.Need-returns-2
+returns-2 c =
+    let out = c .before .before .before .before .before in
+    let a = out .before .before .before .before .args in
+    let new = output shoushi (now (a .input)) in
+    let n = c .before .n .given .0 .0 in
+    let room = answered-whole shoushi (now (a .input)) (length (now (a .out))) (omega arith) in
+    let told : answer n ≡ answer (length new) = sym (ap answerSaid (c .before .n .given .1)) ∙ out .replies .ensures .0 ∙ room in
+    let same : length new ≡ n = cc in
+    let row : out .replies .last .1 .0 ≡ over new (now (a .out)) = rw room at (out .replies .ensures .1) in
+    (omega (arith, over-least new (now (a .out)), ap length row, out .replies .kept .1 .0), written new (now (a .out)) (out .replies .last .1 .0) n same row)
+
+pub answer-lines-spec : {M : Type 1} → statement M
+answer-lines-spec =
+    tie.close
+    (tie.spec replies-requires enum-known-n enum-told same-length returns same-length-2 returns-2)

@@ -1,0 +1,72 @@
+-- `month_lines::block::whole_lines` meets its contract. Assumes nothing.
+use mathlib.Core.Path.{_≡_, _∙_, refl, sym, ap}
+use Prim.Native.Nat.{ℕ, suc, _+_, _-_, _≤_, _<_}
+use native.Mathlib.Omega.{arith}
+use borrow.Author.Tests.{ne-eqb}
+use denote.Ref.{now}
+use lib.ListN.{length, drop, length-drop}
+use lib.Seq.{drop-length}
+use Rattle.lines.specs.Line.{lineLength}
+use Rattle.lines.proofs.LineLaws.{length-step}
+use Rattle.month_lines.proofs.block.whole_lines.Statement.{statement}
+use Rattle.month_lines.proofs.block.whole_lines.Tie as tie
+
+abbrev Inv-loop : tie.InvT-loop
+Inv-loop block n₀ n = (n ≤ length block) × (lineLength (drop n block) ≡ length (drop n block))
+
+abbrev μ-loop : tie.MeasureT-loop
+μ-loop block n₀ n = n
+
+loop-holds : tie.Need-loop-holds Inv-loop μ-loop
+unfolding lineLength
+loop-holds c =
+    let block = now (c .args .block) in
+    (omega arith, ap lineLength (drop-length block) ∙ sym (ap length (drop-length block)))
+
+sub-if1 : tie.Need-sub-if1 Inv-loop μ-loop
+sub-if1 c = omega arith
+
+shared-slice-read-if1 : tie.Need-shared-slice-read-if1 Inv-loop μ-loop
+shared-slice-read-if1 c = omega arith
+
+returns : tie.Need-returns Inv-loop μ-loop
+returns c =
+    let at = c .before .before .before in
+    record { within = at .loop .inv .0; ended = λ _. c .if1 .taken; unfinished = at .loop .inv .1 }
+
+sub-n : tie.Need-sub-n Inv-loop μ-loop
+sub-n c = omega arith
+
+loop-less : tie.Need-loop-less Inv-loop μ-loop
+loop-less c = omega arith
+
+loop-again : tie.Need-loop-again Inv-loop μ-loop
+loop-again c =
+    let at = c .before .before .before in
+    let block = now (at .before .args .block) in
+    let n = at .loop .n in
+    let same : n - 1 + 1 ≡ n = omega arith in
+    let e : lineLength (drop (n - 1) block) ≡ suc (lineLength (drop n block)) =
+    length-step block (n - 1) (omega arith) ∙ simp (ne-eqb _ _ (c .if1 .left)) (ap (λ (k : ℕ). suc (lineLength (drop k block))) same) in
+    (omega arith, omega (arith, length-drop n block, length-drop (n - 1) block))
+
+returns-2 : tie.Need-returns-2 Inv-loop μ-loop
+returns-2 c =
+    let at = c .before in
+    let none : at .loop .n ≡ 0 = omega arith in
+    record { within = omega arith; ended = λ h. absurd (omega arith); unfinished = rw none at (at .loop .inv .1) }
+
+pub whole-lines-spec : {M : Type 1} → statement M
+whole-lines-spec =
+    tie.close
+    (tie.spec
+    Inv-loop
+    μ-loop
+    loop-holds
+    sub-if1
+    shared-slice-read-if1
+    returns
+    sub-n
+    loop-less
+    loop-again
+    returns-2)

@@ -1,0 +1,50 @@
+-- `month_lines::fill` meets its contract. Assumes nothing.
+use Prim.Native.Nat.{_≤_, _-_}
+use native.Mathlib.Omega.{arith}
+use borrow.Rule.Slice.PartMut.{take-put}
+use denote.Ref.{now}
+use lib.ListN.{length}
+use borrow.Author.Needs.{needs}
+use Rattle.month_lines.proofs.fill.Statement.{statement}
+use Rattle.month_lines.proofs.fill.Tie as tie
+
+sub-part : tie.Need-sub-part
+sub-part c = search needs
+
+part-part-start : tie.Need-part-part-start
+part-part-start c = search needs
+
+part-part-end : tie.Need-part-part-end
+part-part-end c = search needs
+
+read-requires : tie.Need-read-requires
+read-requires c κs = search needs
+
+count-requires : tie.Need-count-requires
+count-requires c κs = search needs
+
+add-result : tie.Need-add-result
+add-result c = search needs
+
+same-length : tie.Need-same-length
+same-length c = search needs
+
+returns : tie.Need-returns
+returns c =
+    let read = c .before .before .before .before .before .before in
+    let a = read .before .before .before .before .args in
+    let fits : a .kept ≤ length (now (a .buf)) = omega arith in
+    (omega arith, omega arith, take-put (a .kept) (length (now (a .buf)) - a .kept) (now (a .buf)) (read .read .last .1 .0) fits)
+
+pub fill-spec : {M : Type 1} → statement M
+fill-spec =
+    tie.close
+    (tie.spec
+    sub-part
+    part-part-start
+    part-part-end
+    read-requires
+    count-requires
+    add-result
+    same-length
+    returns)

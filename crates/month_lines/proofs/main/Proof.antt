@@ -1,0 +1,65 @@
+-- `month_lines::main` meets its contract. Assumes nothing.
+use mathlib.Core.Path.{_≡_, sym}
+use Prim.Native.Nat.{_≤_}
+use native.Mathlib.Omega.{arith}
+use lib.ListN.{length}
+use Rattle.month_lines.specs.Block.{enough}
+use Rattle.month_lines.proofs.main.Statement.{statement}
+use Rattle.month_lines.proofs.main.Tie as tie
+
+abbrev Inv-loop : tie.InvT-loop
+Inv-loop buf₀ out₀ kept₀ turns₀ buf out kept turns = (length buf ≡ 65_536) × (length out ≡ 196_608) × (kept ≤ enough)
+
+abbrev μ-loop : tie.MeasureT-loop
+μ-loop buf₀ out₀ kept₀ turns₀ buf out kept turns = turns
+
+large-buffer-requires : tie.Need-large-buffer-requires Inv-loop μ-loop
+large-buffer-requires c κs = tt
+
+reply-buffer-requires : tie.Need-reply-buffer-requires Inv-loop μ-loop
+reply-buffer-requires c κs = tt
+
+loop-holds : tie.Need-loop-holds Inv-loop μ-loop
+loop-holds c = (sym (c .before .large-buffer .ensures), sym (c .reply-buffer .ensures), omega arith)
+
+slice-aggregate-one-turn : tie.Need-slice-aggregate-one-turn Inv-loop μ-loop
+slice-aggregate-one-turn c = omega arith
+
+slice-aggregate-one-turn-2 : tie.Need-slice-aggregate-one-turn-2 Inv-loop μ-loop
+slice-aggregate-one-turn-2 c = omega arith
+
+one-turn-requires : tie.Need-one-turn-requires Inv-loop μ-loop
+one-turn-requires c κs = omega arith
+
+returns : tie.Need-returns Inv-loop μ-loop
+returns c = tt
+
+sub-turns : tie.Need-sub-turns Inv-loop μ-loop
+sub-turns c = omega arith
+
+loop-less : tie.Need-loop-less Inv-loop μ-loop
+loop-less c = omega arith
+
+loop-again : tie.Need-loop-again Inv-loop μ-loop
+loop-again c = omega arith
+
+returns-2 : tie.Need-returns-2 Inv-loop μ-loop
+returns-2 c = tt
+
+pub main-spec : {M : Type 1} → statement M
+main-spec =
+    tie.close
+    (tie.spec
+    Inv-loop
+    μ-loop
+    large-buffer-requires
+    reply-buffer-requires
+    loop-holds
+    slice-aggregate-one-turn
+    slice-aggregate-one-turn-2
+    one-turn-requires
+    returns
+    sub-turns
+    loop-less
+    loop-again
+    returns-2)

@@ -1,0 +1,77 @@
+// Reads days from standard input, a line each, and writes the month of each to standard output.
+mod block;
+
+use libc::STDIN_FILENO;
+use libc::STDOUT_FILENO;
+use lines::REPLY_ROOM;
+ghost use mathlib.Core.Path.{_≡_};
+ghost use Prim.Native.Nat.{_*_, _≤_};
+ghost use lib.ListN.{length, take};
+ghost use Rattle.lines.specs.Line.{replyRoom};
+ghost use Rattle.month_lines.specs.Block.{enough};
+
+// How many bytes of an unfinished line are kept at the buffer's start, and whether to go on.
+struct Turn {
+    kept: usize,
+    more: bool,
+}
+
+const BUFFER: usize = 65_536;
+
+const ROOM: usize = REPLY_ROOM * BUFFER;
+
+// Room for the replies to a full buffer.
+fn reply_buffer() -> [u8; ROOM]
+    ensures { λ r. ⌜ 196_608 ≡ length r ⌝ }
+{
+    [0; ROOM]
+}
+
+// Reads once, after the kept bytes, which stay; how many bytes there are then.
+fn fill(buf: &mut [u8], kept: usize) -> usize
+    requires { ⌜ kept ≤ length (now buf) ⌝ }
+    ensures { λ r. ⌜ (kept ≤ r) × (r ≤ length (now (buf .entry))) × (take kept (now (buf .exit)) ≡ take kept (now (buf .entry))) ⌝ }
+{
+    let part = &mut buf[kept..];
+    let got = libc::read(STDIN_FILENO, part);
+    kept + io::count(got, part)
+}
+
+// One block. Where nothing more is read, what is kept is the last line.
+fn one_turn(buf: &mut [u8], out: &mut [u8], kept: usize) -> Turn
+    requires { ⌜ (kept ≤ enough) × (enough ≤ length (now buf)) × (replyRoom * length (now buf) ≤ length (now out)) ⌝ }
+    ensures { λ r. ⌜ r .kept ≤ enough ⌝ }
+{
+    let have = fill(buf, kept);
+    if have == kept {
+        let last = block::answer_lines(&buf[..kept], out);
+        io::write_all(STDOUT_FILENO, &out[..last]);
+        return Turn {
+            kept: 0,
+            more: false,
+        };
+    }
+    let b = block::answer_block(buf, have, out);
+    let written = b.written;
+    let ok = io::write_all(STDOUT_FILENO, &out[..written]);
+    Turn {
+        kept: b.kept,
+        more: ok,
+    }
+}
+
+// Nothing says that the input ends, so the turns are counted down from a number that no run uses up. A failed write ends it.
+fn main() {
+    let mut buf = io::large_buffer();
+    let mut out = reply_buffer();
+    let mut kept: usize = 0;
+    let mut turns = u64::MAX;
+    while turns > 0 {
+        let turn = one_turn(&mut buf, &mut out, kept);
+        kept = turn.kept;
+        if !turn.more {
+            return;
+        }
+        turns -= 1;
+    }
+}
