@@ -1,11 +1,11 @@
-//! Sets of questions for the desk, always the same ones, so that two programs' replies to a set can
-//! be compared byte for byte.
+//! Sets of questions for the desk and of lines for the line program, always the same ones, so that two
+//! programs' replies to a set can be compared byte for byte.
 
 use crate::calendar::*;
 use std::io::{Result, Write};
 
 /// The names of the sets.
-pub const SETS: [&str; 9] = [
+pub const SETS: [&str; 10] = [
     "years",
     "remainders",
     "names",
@@ -15,13 +15,14 @@ pub const SETS: [&str; 9] = [
     "days",
     "back",
     "lists",
+    "hex",
 ];
 
 /// How many random questions of each kind a set asks when no count is given.
 pub const DEFAULT_COUNT: u64 = 100_000;
 
 /// The words that damaged lines may ask with, each with parts that make a good line.
-pub const DAMAGED: [(&str, &[&str]); 10] = [
+pub const DAMAGED: [(&str, &[&str]); 24] = [
     ("solstice", &["7"]),
     ("term", &["7", "5"]),
     ("pentad", &["7", "5", "2"]),
@@ -32,26 +33,24 @@ pub const DAMAGED: [(&str, &[&str]); 10] = [
     ("extra", &["80000000"]),
     ("vanishing", &["7000000"]),
     ("constants", &[]),
+    ("mean", &["7", "2"]),
+    ("true", &["7", "2"]),
+    ("solar", &["7", "2"]),
+    ("lunar", &["7", "2"]),
+    ("correction", &["7", "2"]),
+    ("motion", &["7", "2"]),
+    ("solar-at", &["fast", "7000000"]),
+    ("lunar-at", &["tardy", "7000000"]),
+    ("motion-at", &["quick", "7"]),
+    ("head", &["7"]),
+    ("day", &["777"]),
+    ("back", &["7", "5", "2"]),
+    ("year", &["7"]),
+    ("years", &["7", "2"]),
 ];
 
-/// The words of the other questions, which no damaged line may begin with.
-pub const NOT_DAMAGED: [&str; 15] = [
-    "mean",
-    "true",
-    "solar",
-    "lunar",
-    "correction",
-    "motion",
-    "solar-at",
-    "lunar-at",
-    "motion-at",
-    "head",
-    "day",
-    "back",
-    "year",
-    "years",
-    "help",
-];
+/// The word whose reply is each program's own.
+pub const NOT_DAMAGED: &str = "help";
 
 const SEED: u64 = 0x1281_0365_2425_0001;
 
@@ -79,6 +78,7 @@ pub fn write(set: &str, count: u64, out: &mut impl Write) -> Result<bool> {
         "days" => days(out)?,
         "back" => back(count, out)?,
         "lists" => lists(out)?,
+        "hex" => hex(count, out)?,
         _ => return Ok(false),
     }
     Ok(true)
@@ -415,10 +415,7 @@ fn damaged(count: u64, out: &mut impl Write) -> Result<()> {
 /// Returns nothing, having written a line with its end unless it asks with a word left out here.
 fn put_damaged(line: &[u8], out: &mut impl Write) -> Result<()> {
     let word = line.split(|byte| *byte == b' ').next().unwrap_or(line);
-    if NOT_DAMAGED
-        .iter()
-        .any(|left_out| left_out.as_bytes() == word)
-    {
+    if word == NOT_DAMAGED.as_bytes() {
         return Ok(());
     }
     out.write_all(line)?;
@@ -626,9 +623,15 @@ fn damaged_lengths(parts: &[&[u8]]) -> Vec<Vec<u8>> {
 fn random_damage(random: &mut Random) -> Vec<u8> {
     let (word, numbers) = DAMAGED[random.below(DAMAGED.len() as u64) as usize];
     let mut line = word.as_bytes().to_vec();
-    for _ in numbers {
-        let number = random_number(random);
-        line.extend_from_slice(format!(" {number}").as_bytes());
+    for part in numbers {
+        let half = part.parse::<u64>().is_err();
+        let number = random_number(random).to_string();
+        line.push(b' ');
+        line.extend_from_slice(if half {
+            part.as_bytes()
+        } else {
+            number.as_bytes()
+        });
     }
     for _ in 0..random.below(4) {
         change(&mut line, random);
@@ -674,4 +677,46 @@ fn likely_byte(random: &mut Random) -> u8 {
     } else {
         byte
     }
+}
+
+// The lines of the line program.
+
+/// Returns nothing, having written each day in five digits, lines damaged in every way, then random ones.
+fn hex(count: u64, out: &mut impl Write) -> Result<()> {
+    for day in (0..=365_300).chain([0x5_9304, 0xF_FFFE, 0xF_FFFF]) {
+        writeln!(out, "{day:05X}")?;
+    }
+    for text in [
+        "",
+        " ",
+        "\r",
+        "00023\r",
+        " 00023",
+        "00023 ",
+        "0023",
+        "000023",
+        "00g40",
+        "0002a",
+        "\0\0\0\0\0",
+    ] {
+        out.write_all(text.as_bytes())?;
+        out.write_all(b"\n")?;
+    }
+    for byte in bytes() {
+        out.write_all(&[b'0', b'0', byte, b'2', b'3', b'\n'])?;
+    }
+    for length in [6, 255, 256, 65_535, 65_536, 70_000] {
+        out.write_all(&vec![b'0'; length])?;
+        out.write_all(b"\n")?;
+    }
+    let mut random = Random::start();
+    for _ in 0..count {
+        let mut line = format!("{:05X}", random.below(400_000)).into_bytes();
+        for _ in 0..=random.below(3) {
+            change(&mut line, &mut random);
+        }
+        out.write_all(&line)?;
+        out.write_all(b"\n")?;
+    }
+    Ok(())
 }

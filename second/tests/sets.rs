@@ -40,7 +40,10 @@ fn the_sets_ask_all_that_they_promise() {
 #[test]
 fn only_the_damaged_set_asks_what_is_no_question() {
     let months = Months::listed();
-    for name in ask::SETS.iter().filter(|name| **name != "damaged") {
+    for name in ask::SETS
+        .iter()
+        .filter(|name| !["damaged", "hex"].contains(name))
+    {
         for line in lines(&set(name, 10)) {
             if !line.starts_with(b"years") {
                 assert_ne!(desk::reply(&months, line), "refused 5");
@@ -56,10 +59,7 @@ fn the_damaged_set_has_good_and_bad_lines_of_its_own_words_alone() {
     let mut told = [0; 3];
     for line in lines(&bytes) {
         let word = line.split(|byte| *byte == b' ').next().unwrap();
-        let left_out = ask::NOT_DAMAGED
-            .iter()
-            .any(|other| other.as_bytes() == word);
-        assert!(!left_out);
+        assert_ne!(word, ask::NOT_DAMAGED.as_bytes());
         let reply = desk::reply(&months, line);
         let known = ask::DAMAGED.iter().any(|(own, _)| own.as_bytes() == word);
         assert!(known || reply == "refused 5");
@@ -75,7 +75,7 @@ fn the_damaged_set_has_good_and_bad_lines_of_its_own_words_alone() {
 #[test]
 fn every_word_of_the_desk_is_either_damaged_or_left_out() {
     let mut words: Vec<&str> = ask::DAMAGED.iter().map(|(word, _)| *word).collect();
-    words.extend(ask::NOT_DAMAGED);
+    words.push(ask::NOT_DAMAGED);
     words.sort_unstable();
     let questions = desk::QUESTIONS.iter();
     let mut asked: Vec<&str> = questions
