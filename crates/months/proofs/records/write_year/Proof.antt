@@ -73,7 +73,7 @@ put-month-requires c κs =
     let b = c .before .before .before in
     let p = b .before .before .before .pre in
     let solstice = b .before .middle-day .ensures in
-    let test = c .before .if1 .taken in (
+    let test : b .loop .span .next ≤ b .before .middle-day .result = omega arith in (
       b .loop .inv .right,
       counted (b .loop .inv) solstice test (p .0),
       simp (length-take, length-drop) (omega (arith, fits (b .loop .inv) solstice test (p .2))),
@@ -81,38 +81,35 @@ put-month-requires c κs =
 
 span-after-requires : tie.Need-span-after-requires Inv-loop μ-loop
 span-after-requires c κs =
-    let t = c .before .before .before .before in
-    let b = t .before .before in
-    (b .loop .inv .right, counted (b .loop .inv) (b .before .middle-day .ensures) (t .if1 .taken) (b .before .before .before .pre .0))
+    let b = c .before .before .before .before .before .before in
+    (b .loop .inv .right, counted (b .loop .inv) (b .before .middle-day .ensures) (omega arith) (b .before .before .before .pre .0))
 
 add-used : tie.Need-add-used Inv-loop μ-loop
 add-used c =
-    let t = c .before .before .before .before .before in
-    let b = t .before .before in
-    omega (arith, fits (b .loop .inv) (b .before .middle-day .ensures) (t .if1 .taken) (b .before .before .before .pre .2))
+    let b = c .before .before .before .before .before .before .before in
+    omega (arith, fits (b .loop .inv) (b .before .middle-day .ensures) (omega arith) (b .before .before .before .pre .2))
 
 loop-less : tie.Need-loop-less Inv-loop μ-loop
 loop-less c =
-    let t = c .before .before .before .before .before in
-    let b = t .before .before in
+    let b = c .before .before .before .before .before .before .before in
     omega (
       arith,
-      in-list (b .loop .inv) (b .before .middle-day .ensures) (t .if1 .taken),
+      in-list (b .loop .inv) (b .before .middle-day .ensures) (omega arith),
       lunation-is cal (c .span-after .result) (suc (b .loop .span .lunation)) (c .span-after .ensures),
     )
 
 loop-again : tie.Need-loop-again Inv-loop μ-loop
 loop-again c =
     let put = c .before .before .before .put-month in
-    let t = c .before .before .before .before .before in
-    let b = t .before .before in
+    let b = c .before .before .before .before .before .before .before in
     let start = b .before .before .before in
     let at = b .loop .inv in
     let solstice = b .before .middle-day .ensures in
+    let test : b .loop .span .next ≤ b .before .middle-day .result = omega arith in
     let row = b .loop .row in
     let used = b .loop .used in
     goes-on cal shoushi-lawful (start .args .n) (now (start .args .row)) row (b .loop .span) used at
-    (in-list at solstice (t .if1 .taken)) (fits at solstice (t .if1 .taken) (start .pre .2)) (put .last .1 .0)
+    (in-list at solstice test) (fits at solstice test (start .pre .2)) (put .last .1 .0)
     (same-len-mid {X = ℕ} used (length row - used) row (put .last .1 .0) (put .kept .1 .0)) (put .ensures)
     (c .span-after .result) (c .span-after .ensures)
 
@@ -128,7 +125,7 @@ returns c =
     let n = start .args .n in
     ends cal shoushi-lawful n (now (start .args .row)) (b .loop .row) span (b .loop .used) at
     (not-over cal span (span .lunation) (at .right) shoushi-lawful n (b .before .middle-day .result) (b .before .middle-day .ensures)
-    (c .if1 .left))
+    (omega arith))
 
 pub write-year-spec : {M : Type 1} → statement M
 write-year-spec =
