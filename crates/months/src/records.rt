@@ -1,6 +1,11 @@
 // A year's list and a run of years, as month records in a lent row of numbers.
 use crate::Kind;
 use crate::Span;
+use crate::first_day;
+use crate::head_span;
+use crate::kind_by;
+use crate::last_term;
+use crate::middle_day;
 use measure::Answer;
 use measure::LAST_YEAR;
 use measure::NO_YEAR;
@@ -34,7 +39,7 @@ const MARK: usize = 3;
 // How many records a row needs for each year.
 pub const YEAR_ROOM: u64 = 13;
 
-// The records of year n from the row's start; how many there are. A year past the last is refused with 1, then a row that is too short
+// The records of year n, from the row's start; how many there are. A year past the last is refused with 1, then a row that is too short
 // with 4.
 pub fn list(n: u64, row: &mut [u64]) -> Answer
     ensures { λ r. ⌜ answerSaid r ≡ listReply shoushi n (length (now (row .entry)) / recordWidth) ⌝ }
@@ -46,13 +51,13 @@ pub fn list(n: u64, row: &mut [u64]) -> Answer
     if room(row) < YEAR_ROOM {
         return Answer::Refused(SHORT_ROW);
     }
-    let start = crate::head_span(n);
+    let start = head_span(n);
     let end = write_year(n, start, row);
     Answer::Number(end.lunation - start.lunation)
 }
 
-// The records of so many years from n on, each list from where the one before it ended; how many there are. No years, a first year past
-// the last or a run past it are refused with 1, then a row that is too short with 4.
+// The records of so many years from n on, each list from where the one before it ended; how many there are. A run of no years or past
+// the last is refused with 1, then a row that is too short with 4.
 pub fn run(n: u64, count: u64, row: &mut [u64]) -> Answer
     ensures { λ r. ⌜ answerSaid r ≡ runReply shoushi n count (length (now (row .entry)) / recordWidth) ⌝ }
     ensures { λ _. ⌜ now (row .exit) ≡ rowAfter (runReply shoushi n count (length (now (row .entry)) / recordWidth)) (runOf (calendar shoushi) n count) (now (row .entry)) ⌝ }
@@ -79,13 +84,13 @@ fn room(row: &[u64]) -> u64
     (row.len() / RECORD_WIDTH) as u64
 }
 
-// The list of each year is lent the row from where the one before it ended, and goes on from that one's last month.
+// Each list is written into the row from where the one before it ended, and hands on the next head, so that only the first is sought.
 fn write_years(n: u64, count: u64, row: &mut [u64]) -> u64
     requires { ⌜ (n + count ≤ suc lastYear) × (yearRoom * count ≤ length (now row) / recordWidth) ⌝ }
     ensures { λ r. ⌜ r ≡ monthsInRun (calendar shoushi) n count ⌝ }
     ensures { λ _. ⌜ now (row .exit) ≡ over (runOf (calendar shoushi) n count) (now (row .entry)) ⌝ }
 {
-    let mut start = crate::head_span(n);
+    let mut start = head_span(n);
     let mut months: u64 = 0;
     let mut k: u64 = 0;
     while k < count {
@@ -98,14 +103,14 @@ fn write_years(n: u64, count: u64, row: &mut [u64]) -> u64
     months
 }
 
-// From the head of year n, a month is of its list where the month after it begins no later than the next solstice. The month that is not
-// is the next head, and is handed back.
+// The list of year n, from its head on: a month is of it where the one after begins no later than the next solstice. The first that is
+// not is the next head, which is handed back.
 fn write_year(n: u64, start: Span, row: &mut [u64]) -> Span
     requires { ⌜ (n ≤ lastYear) × (start ≡ spanOf (calendar shoushi) (head (calendar shoushi) n)) × (yearRoom ≤ length (now row) / recordWidth) ⌝ }
     ensures { λ r. ⌜ r ≡ spanOf (calendar shoushi) (head (calendar shoushi) (suc n)) ⌝ }
     ensures { λ _. ⌜ now (row .exit) ≡ over (recordsOf (calendar shoushi) n (monthsIn (calendar shoushi) n)) (now (row .entry)) ⌝ }
 {
-    let solstice = crate::middle_day(12 * (n + 1));
+    let solstice = middle_day(12 * (n + 1));
     let mut span = start;
     let mut used: usize = 0;
     while span.next <= solstice {
@@ -124,15 +129,16 @@ fn span_after(span: Span) -> Span
     Span {
         lunation: span.lunation + 1,
         first: span.next,
-        next: crate::first_day(span.lunation + 2),
+        next: first_day(span.lunation + 2),
     }
 }
 
+// The month's kind goes by the last middle term before its end.
 fn put_month(span: Span, row: &mut [u64])
     requires { ⌜ (span ≡ spanOf (calendar shoushi) (span .lunation)) × (span .lunation ≤ lastLunation) × (recordWidth ≤ length (now row)) ⌝ }
     ensures { λ _. ⌜ now (row .exit) ≡ over (recordOf (calendar shoushi) (span .lunation)) (now (row .entry)) ⌝ }
 {
-    let kind = crate::kind_by(span.first, crate::last_term(span.next));
+    let kind = kind_by(span.first, last_term(span.next));
     put_record(
         span.first,
         span.next - span.first,
