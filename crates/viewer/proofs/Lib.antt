@@ -1,1 +1,3 @@
 pub mod Fitting
+pub mod Rest
+pub mod ByteLaws
