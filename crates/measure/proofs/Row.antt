@@ -1,13 +1,14 @@
--- Laws of lists and lent rows: one place more of a list, and one store more after what is written already.
+-- Laws of lists and lent rows: one place more of a list, and one store or one list more after what is written already.
 -- Assumes nothing.
 use mathlib.Core.Path.{_≡_, _∙_, refl, sym, ap}
-use mathlib.Core.List.{List, [], _∷_, _++_, append-assoc}
-use Prim.Native.Nat.{ℕ, zero, suc, _+_, _<_}
+use mathlib.Core.List.{List, [], _∷_, _++_, append-assoc, append-nil}
+use Prim.Native.Nat.{ℕ, zero, suc, _+_, _-_, _<_}
 use native.Mathlib.Nat.{zero-add, add-zero, suc-add, add-suc}
 use native.Mathlib.Numerals.{add-one}
 use native.Mathlib.Omega.{arith}
-use lib.ListN.{length, getD, drop, set, length-append}
-use lib.Seq.{drop-cons, set-at}
+use lib.ListN.{length, getD, take, drop, set, length-append}
+use lib.Seq.{drop-cons, set-at, take-at, drop-at, take-length, drop-length, drop-drop}
+use borrow.Rule.Slice.PartMut.{putMid}
 use Rattle.measure.specs.Row.{listed, over}
 
 pub length-listed : (f : ℕ → ℕ) (i k : ℕ) → length (listed f i k) ≡ k
@@ -45,6 +46,32 @@ pub put-listed : (f : ℕ → ℕ) (row now : List ℕ) (n : ℕ) → now ≡ ov
     → set now n (f n) ≡ over (listed f 0 (n + 1)) row
 put-listed f row now n e h =
     put (listed f 0 n) row now (f n) n e (length-listed f 0 n) h ∙ ap (λ (l : List ℕ). over l row) (sym (listed-more f n))
+
+-- what a row holds from u on, and the row after that part is lent and comes back
+abbrev pub restFrom : ℕ → List ℕ → List ℕ
+restFrom u row = take (length row - u) (drop u row)
+
+abbrev pub withRest : ℕ → List ℕ → List ℕ → List ℕ
+withRest u row rest = putMid u (length row - u) row rest
+
+-- more written into the rest of a row that holds `new` and then `old`
+rest-written : (new more old : List ℕ) (u : ℕ) → length new ≡ u
+    → withRest u (new ++ old) (over more (restFrom u (new ++ old))) ≡ new ++ (more ++ drop (length more) old)
+unfolding over
+rest-written new more old u e =
+    let left : length (new ++ old) - u ≡ length old = omega (arith, length-append new old) in
+    rw (left, take-at new old u e, drop-at new old u e, take-length, drop-length, append-nil)
+
+over-append : (new more row : List ℕ) → new ++ (more ++ drop (length more) (drop (length new) row)) ≡ over (new ++ more) row
+unfolding over
+over-append new more row = simp (append-assoc, length-append, drop-drop)
+
+-- so a row grows by the list that is written into its rest
+pub grow : (new more row now rest : List ℕ) (u : ℕ) → now ≡ over new row → length new ≡ u → rest ≡ over more (restFrom u now)
+    → withRest u now rest ≡ over (new ++ more) row
+unfolding over
+grow new more row now rest u e k g =
+    rw (g, e) (rest-written new more (drop (length new) row) u k) ∙ over-append new more row
 
 -- a list and the list that goes on from its end are one list
 pub listed-append : (f : ℕ → ℕ) (i j k : ℕ) → listed f i j ++ listed f (i + j) k ≡ listed f i (j + k)

@@ -1,17 +1,15 @@
 -- A month's year, number and leap mark by the last middle term before its end.
 -- Assumes nothing.
-use mathlib.Core.Logic.{⊎-elim}
-use mathlib.Core.Path.{_≡_, refl, ap, sym, _∙_}
-use Prim.Native.Nat.{ℕ, suc, _+_, _-_, _*_, _/_, _≤_, _<_}
+use mathlib.Core.Path.{_≡_, ap, sym, _∙_}
+use Prim.Native.Nat.{ℕ, suc, _+_, _-_, _/_, _<_}
 use native.Mathlib.Omega.{arith}
-use Rattle.measure.specs.Choice.{if_then_else_, _<?_}
 use Rattle.month_law.specs.Calendar.{Calendar, lengthOf, monthOf, head, monthsIn, yearOf}
 use Rattle.month_law.specs.Lawful.{Lawful}
 use Rattle.month_law.proofs.Terms.{lastTerm, lacks, last-unique, InList, year-to-list}
 use Rattle.month_law.proofs.Lists.{leap-lacks, listed-place}
 use Rattle.month_law.proofs.Numbers.{number-by-term}
 use Rattle.month_law.proofs.Runs.{year-of}
-use Rattle.months.specs.Month.{Kind, MonthOfDay, kindAt, placed, monthOfDay}
+use Rattle.months.specs.Month.{MonthOfDay, kindAt, placed, monthOfDay}
 use Rattle.months.specs.Span.{LastBefore, kindBy}
 
 module _ (c : Calendar) (ok : Lawful c) where
@@ -35,6 +33,13 @@ module _ (c : Calendar) (ok : Lawful c) where
       let e : j ≡ lastTerm c l = last-is l j last in
       rw (leap-lacks c ok n p h, number-by-term c ok n p h, ← e)
 
+  pub kind-told : (l j : ℕ) → LastBefore c (c .first (suc l)) j → kindBy c (c .first l) j ≡ kindAt c (j / 12) (l - head c (j / 12))
+  kind-told l j last =
+      let n = j / 12 in
+      let at : head c n + (l - head c n) ≡ l = listed-place c ok n l (year-told l j last) in
+      ap (λ (m : ℕ). kindBy c (c .first m) j) (sym at)
+      ∙ kind-is n (l - head c n) j (omega (arith, year-told l j last)) (rw at last)
+
   -- so the month of a day is told by its span and that term
   pub month-is : (d l j : ℕ) → l ≡ monthOf c d → LastBefore c (c .first (suc l)) j
       → _≡_ {A = MonthOfDay}
@@ -50,10 +55,13 @@ module _ (c : Calendar) (ok : Lawful c) where
   unfolding monthOfDay placed
   month-is d l j e last =
       let n = j / 12 in
-      let p = l - head c n in
-      let at : head c n + p ≡ l = listed-place c ok n l (year-told l j last) in
-      let kind : kindBy c (c .first l) j ≡ kindAt c n p =
-      ap (λ (m : ℕ). kindBy c (c .first m) j) (sym at)
-      ∙ kind-is n p j (omega (arith, year-told l j last)) (rw at last) in
       rw (← e, ← year-is l j last)
-      (λ i. record { kind = kind i; year = n; place = p; day = d - c .first l + 1; first = c .first l; length = lengthOf c l })
+      (λ i.
+      record {
+        kind = kind-told l j last i;
+        year = n;
+        place = l - head c n;
+        day = d - c .first l + 1;
+        first = c .first l;
+        length = lengthOf c l;
+      })

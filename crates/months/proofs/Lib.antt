@@ -1,2 +1,7 @@
+pub mod Spans
 pub mod Reach
 pub mod ByTerm
+pub mod RecordLaws
+pub mod YearList
+pub mod RunList
+pub mod Unique

@@ -2,22 +2,22 @@
 -- the admitted years reach from lunation 0 to 12,367.
 -- Assumes nothing.
 use mathlib.Core.Path.{_≡_, ap, _∙_}
-use Prim.Native.Nat.{ℕ, zero, suc, _+_, _-_, _*_, _/_, _≤_, _<_}
+use Prim.Native.Nat.{ℕ, suc, _+_, _*_, _≤_, _<_}
 use native.Mathlib.Omega.{arith}
-use Rattle.measure.specs.Units.{day, month, lastYear, termStep}
+use Rattle.measure.specs.Units.{day, month, lastYear}
 use Rattle.measure.specs.Epoch.{shoushi, meanStart}
 use Rattle.moons.specs.Lunation.{lastLunation, mean}
 use Rattle.month_law.specs.Calendar.{Calendar, monthOf, head, monthsIn}
 use Rattle.month_law.specs.Edition.{middleDay, calendar}
 use Rattle.month_law.proofs.Size.{correctionSize}
-use Rattle.month_law.proofs.MonthLength.{Near, near}
+use Rattle.month_law.proofs.MonthLength.{near}
 use Rattle.month_law.proofs.Rising.{rises-weakly, order-back}
 use Rattle.month_law.proofs.Months.{InMonth, first-rises, day-in-month, month-of, head-rises}
-use Rattle.month_law.proofs.Lists.{months-in-least}
 use Rattle.month_law.proofs.Edition.{figures, middle-day, shoushi-lawful}
 use Rattle.months.specs.Month.{earliest, latest}
-use Rattle.months.specs.Span.{spanOf}
+use Rattle.months.specs.Span.{spanOf, LastBefore}
 use Rattle.months.specs.declared.Span.{Span}
+use Rattle.months.proofs.Spans.{next-is}
 
 abbrev c : Calendar
 c = calendar shoushi
@@ -25,6 +25,17 @@ c = calendar shoushi
 -- no month begins before the first
 pub first-least : (l : ℕ) → earliest ≤ c .first l
 first-least l = omega (arith, figures, rises-weakly (c .first) (first-rises c shoushi-lawful) 0 l (omega arith))
+
+-- a month of the lists ends by the day after the latest
+pub end-most : (l : ℕ) → l ≤ lastLunation → c .first (suc l) ≤ suc latest
+end-most l h = omega (arith, figures, rises-weakly (c .first) (first-rises c shoushi-lawful) (suc l) (suc lastLunation) (omega arith))
+
+pub end-small : (span : Span) (l : ℕ) → span ≡ spanOf c l → l ≤ lastLunation → span .next ≤ suc latest
+end-small span l e h = omega (arith, next-is c span l e, end-most l h)
+
+-- a middle term before then is of an admitted year
+pub term-small : (next j : ℕ) → next ≤ suc latest → LastBefore c next j → j < 12_000
+term-small next j h last = omega (arith, last .come, middle-day shoushi j)
 
 -- the months of the calendar's days
 module _ (d : ℕ) (since : earliest ≤ d) (until : d ≤ latest) where
@@ -36,15 +47,6 @@ module _ (d : ℕ) (since : earliest ≤ d) (until : d ≤ latest) where
       omega (
         arith,
         order-back (c .first) (first-rises c shoushi-lawful) (monthOf c d) (suc lastLunation) (omega (arith, figures, month-held)),
-      )
-
-  pub next-most : c .first (suc (monthOf c d)) ≤ suc latest
-  next-most =
-      omega (
-        arith,
-        figures,
-        month-most,
-        rises-weakly (c .first) (first-rises c shoushi-lawful) (suc (monthOf c d)) (suc lastLunation) (omega (arith, month-most)),
       )
 
 -- the heads

@@ -79,6 +79,15 @@ abbrev pub kindSaid : KindCase → Kind
 kindSaid (Ordinary n) = ordinary n
 kindSaid (Leap n) = leap n
 
+-- the number and the leap mark of each
+abbrev pub numberIn : Kind → ℕ
+numberIn (ordinary n) = n
+numberIn (leap n) = n
+
+abbrev pub markIn : Kind → ℕ
+markIn (ordinary n) = 0
+markIn (leap n) = 1
+
 abbrev pub monthSaid : Month → MonthOfDay
 monthSaid m =
     record {

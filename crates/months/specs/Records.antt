@@ -6,7 +6,7 @@ use Rattle.measure.specs.Choice.{_<?_, _=?_}
 use Rattle.measure.specs.Reply.{Reply, answer, noYear, shortRow, refuseIf}
 use Rattle.measure.specs.Units.{lastYear}
 use Rattle.measure.specs.Epoch.{Epoch}
-use Rattle.month_law.specs.Calendar.{Calendar, lengthOf, head, monthsIn, numberAt, leapMark}
+use Rattle.month_law.specs.Calendar.{Calendar, lengthOf, head, monthsIn, yearOf, numberAt, leapMark}
 use Rattle.month_law.specs.Edition.{calendar}
 
 -- how many numbers a record has, and how many records a row needs for each year
@@ -20,6 +20,10 @@ module _ (c : Calendar) where
   -- first day, length, number, leap mark of the month at place p of year n
   unfoldable pub recordAt : ℕ → ℕ → List ℕ
   recordAt n p = c .first (head c n + p) ∷ lengthOf c (head c n + p) ∷ numberAt c n p ∷ leapMark c n p ∷ []
+
+  -- the record of month l, by the year in whose list it stands
+  unfoldable pub recordOf : ℕ → List ℕ
+  recordOf l = let n = yearOf c l in recordAt n (l - head c n)
 
   -- the first k records of year n
   unfoldable pub recordsOf : ℕ → ℕ → List ℕ

@@ -1,4 +1,6 @@
 // The head of a year, a day's month and the way back, a year's list and a run of years.
+mod records;
+
 use measure::Answer;
 use measure::DAY;
 use measure::LAST_YEAR;
@@ -6,17 +8,19 @@ use measure::MONTH;
 use measure::NO_DAY;
 use measure::NO_YEAR;
 use measure::OUTSIDE;
-use measure::SHORT_ROW;
 use measure::SOLSTICE_EPOCH;
 use measure::TERM_STEP;
 use moons::MEAN_START;
+pub use records::RECORD_WIDTH;
+pub use records::YEAR_ROOM;
+pub use records::leap_mark;
+pub use records::list;
+pub use records::number_in;
+pub use records::run;
 ghost use mathlib.Core.Path.{_≡_};
-ghost use mathlib.Core.List.{[], _∷_};
 ghost use Prim.Native.Nat.{suc, _+_, _-_, _*_, _/_, _≤_, _<_};
-ghost use lib.ListN.{length};
 ghost use Rattle.measure.specs.Choice.{if_then_else_, _<?_};
 ghost use Rattle.measure.specs.Reply.{answerSaid};
-ghost use Rattle.measure.specs.Row.{over, rowAfter};
 ghost use Rattle.measure.specs.Units.{lastYear};
 ghost use Rattle.measure.specs.Epoch.{shoushi};
 ghost use Rattle.moons.specs.Lunation.{lastLunation};
@@ -26,7 +30,6 @@ ghost use Rattle.month_law.specs.Edition.{middleDay, calendar};
 ghost use Rattle.months.specs.Head.{headReply};
 ghost use Rattle.months.specs.Month.{earliest, latest, monthOfDay, dayReply, backReply, kindSaid, monthSaid, replySaid};
 ghost use Rattle.months.specs.Span.{spanOf, kindBy, LastBefore};
-ghost use Rattle.months.specs.Records.{recordWidth, yearRoom, recordAt, recordsOf, runOf, monthsInRun, listReply, runReply};
 
 // A month is ordinary or leap, with its number inside.
 pub enum Kind {
@@ -143,8 +146,16 @@ fn head_of(n: u64) -> u64
     requires { ⌜ n ≤ suc lastYear ⌝ }
     ensures { λ r. ⌜ r ≡ head (calendar shoushi) n ⌝ }
 {
-    let span = span_of(middle_day(12 * n));
-    span.lunation
+    let head = head_span(n);
+    head.lunation
+}
+
+// The head of year n with its days.
+fn head_span(n: u64) -> Span
+    requires { ⌜ n ≤ suc lastYear ⌝ }
+    ensures { λ r. ⌜ r ≡ spanOf (calendar shoushi) (head (calendar shoushi) n) ⌝ }
+{
+    span_of(middle_day(12 * n))
 }
 
 // A month by the day on which it begins and the last middle term before its end: it has that term's number, and is leap where that

@@ -1,18 +1,18 @@
 -- `months::month_in` meets its contract: the last middle term before the month's end tells its year and its kind.
 -- Assumes nothing.
-use mathlib.Core.Path.{_≡_, refl, _∙_, ap, subst}
-use Prim.Native.Nat.{ℕ, suc, _+_, _-_, _/_, _≤_, _<_}
+use mathlib.Core.Path.{_≡_, refl, _∙_, ap}
+use Prim.Native.Nat.{ℕ, suc, _+_, _-_, _/_, _≤_}
 use native.Mathlib.Omega.{arith}
 use borrow.Author.Needs.{needs}
 use Rattle.measure.specs.Epoch.{shoushi}
 use Rattle.month_law.specs.Calendar.{Calendar, monthOf, head}
 use Rattle.month_law.specs.Edition.{calendar}
-use Rattle.month_law.proofs.Terms.{one-come}
-use Rattle.month_law.proofs.Edition.{middle-day, shoushi-lawful}
+use Rattle.month_law.proofs.Edition.{shoushi-lawful}
 use Rattle.months.specs.Month.{Kind, MonthOfDay, earliest, latest, monthOfDay, kindSaid}
 use Rattle.months.specs.Span.{spanOf, kindBy, LastBefore}
 use Rattle.months.specs.declared.Span.{Span}
-use Rattle.months.proofs.Reach.{month-held, next-most}
+use Rattle.months.proofs.Reach.{month-held, month-most, end-small, term-small}
+use Rattle.months.proofs.Spans.{lunation-is, first-is, next-is, first-before, term-come, last-of-month}
 use Rattle.months.proofs.ByTerm.{year-told, month-is}
 use Rattle.months.proofs.month_in.Statement.{statement}
 use Rattle.months.proofs.month_in.Tie as tie
@@ -20,36 +20,21 @@ use Rattle.months.proofs.month_in.Tie as tie
 abbrev cal : Calendar
 cal = calendar shoushi
 
--- the span's numbers
-module _ (span : Span) (d : ℕ) (e : span ≡ spanOf cal (monthOf cal d)) where
-  lunation-is : span .lunation ≡ monthOf cal d
-  lunation-is = ap (λ (s : Span). s .lunation) e
-
-  first-is : span .first ≡ cal .first (monthOf cal d)
-  first-is = ap (λ (s : Span). s .first) e
-
-  next-is : span .next ≡ cal .first (suc (monthOf cal d))
-  next-is = ap (λ (s : Span). s .next) e
-
--- a middle term before the end of the last month is of an admitted year
-term-small : (next j : ℕ) → next ≤ suc latest → LastBefore cal next j → j < 12_000
-term-small next j h last = omega (arith, last .come, middle-day shoushi j)
-
 -- what is known of a span whose day is admitted, and of the last middle term before its end
 module _ (span : Span) (d : ℕ) (since : earliest ≤ d) (until : d ≤ latest) (e : span ≡ spanOf cal (monthOf cal d)) where
   next-small : span .next ≤ suc latest
-  next-small = omega (arith, next-is span d e, next-most d since until)
+  next-small = end-small span (monthOf cal d) e (month-most d since until)
 
-  begun : (span .first ≤ d) × (span .first ≤ span .next)
-  begun = omega (arith, first-is span d e, next-is span d e, month-held d since until)
+  begun : span .first ≤ d
+  begun = omega (arith, first-is cal span (monthOf cal d) e, month-held d since until)
 
   module _ (j : ℕ) (last : LastBefore cal (span .next) j) where
     before-next : LastBefore cal (cal .first (suc (monthOf cal d))) j
-    before-next = subst (λ (n : ℕ). LastBefore cal n j) (next-is span d e) last
+    before-next = last-of-month cal span (monthOf cal d) e j last
 
     head-before : (h : ℕ) → h ≡ head cal (j / 12) → h ≤ span .lunation
     head-before h eh =
-        omega (arith, lunation-is span d e, year-told cal shoushi-lawful (monthOf cal d) j before-next)
+        omega (arith, lunation-is cal span (monthOf cal d) e, year-told cal shoushi-lawful (monthOf cal d) j before-next)
 
     said : (kind : Kind) (h : ℕ) → kind ≡ kindBy cal (span .first) j → h ≡ head cal (j / 12)
         → _≡_ {A = MonthOfDay}
@@ -63,15 +48,15 @@ module _ (span : Span) (d : ℕ) (since : earliest ≤ d) (until : d ≤ latest)
         })
         (monthOfDay cal d)
     said kind h ek eh =
-        let kind' : kind ≡ kindBy cal (cal .first (monthOf cal d)) j = ek ∙ ap (λ (f : ℕ). kindBy cal f j) (first-is span d e) in
+        let kind' : kind ≡ kindBy cal (cal .first (monthOf cal d)) j = ek ∙ ap (λ (f : ℕ). kindBy cal f j) (first-is cal span (monthOf cal d) e) in
         (λ i.
         record {
           kind = kind' i;
           year = j / 12;
-          place = lunation-is span d e i - eh i;
-          day = d - first-is span d e i + 1;
-          first = first-is span d e i;
-          length = next-is span d e i - first-is span d e i;
+          place = lunation-is cal span (monthOf cal d) e i - eh i;
+          day = d - first-is cal span (monthOf cal d) e i + 1;
+          first = first-is cal span (monthOf cal d) e i;
+          length = next-is cal span (monthOf cal d) e i - first-is cal span (monthOf cal d) e i;
         })
         ∙ month-is cal shoushi-lawful d (monthOf cal d) j refl before-next
 
@@ -79,12 +64,7 @@ last-term-requires : tie.Need-last-term-requires
 last-term-requires c κs =
     let p = c .pre in
     let d = c .args .d in
-    omega (
-      arith,
-      next-is (c .args .span) d (p .2),
-      one-come cal shoushi-lawful (monthOf cal d),
-      next-small (c .args .span) d (p .0) (p .1) (p .2),
-    )
+    omega (arith, term-come cal (c .args .span) (monthOf cal d) (p .2) shoushi-lawful, next-small (c .args .span) d (p .0) (p .1) (p .2))
 
 kind-by-requires : tie.Need-kind-by-requires
 kind-by-requires c κs =
@@ -117,16 +97,14 @@ sub-t10 : tie.Need-sub-t10
 sub-t10 c =
     let start = c .before .before .before .before in
     let p = start .pre in
-    begun (start .args .span) (start .args .d) (p .0) (p .1) (p .2) .0
+    begun (start .args .span) (start .args .d) (p .0) (p .1) (p .2)
 
 add-t11 : tie.Need-add-t11
 add-t11 c = search needs
 
 sub-t12 : tie.Need-sub-t12
 sub-t12 c =
-    let start = c .before .before .before .before in
-    let p = start .pre in
-    begun (start .args .span) (start .args .d) (p .0) (p .1) (p .2) .1
+    let start = c .before .before .before .before in first-before cal (start .args .span) (monthOf cal (start .args .d)) (start .pre .2) shoushi-lawful
 
 returns : tie.Need-returns
 returns c =
