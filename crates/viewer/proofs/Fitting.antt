@@ -19,10 +19,9 @@ use Rattle.month_law.proofs.Terms.{InList}
 use Rattle.month_law.proofs.Lists.{months-in-most}
 use Rattle.month_law.proofs.Runs.{year-listed}
 use Rattle.month_law.proofs.Edition.{figures, shoushi-lawful}
-use Rattle.months.specs.Month.{Kind, ordinary, leap, MonthOfDay, earliest, latest, kindAt, placed, monthOfDay, dayReply}
+use Rattle.months.specs.Month.{Kind, ordinary, leap, MonthOfDay, earliest, latest, numberIn, markIn, kindAt, placed, monthOfDay, dayReply}
 use Rattle.months.proofs.Reach.{month-held, month-most}
-use Rattle.viewer.specs.Told.{numberOf}
-use Rattle.viewer.specs.Sizes.{Fits}
+use Rattle.viewer.specs.Told.{Fits}
 
 abbrev c : Calendar
 c = calendar shoushi
@@ -31,28 +30,33 @@ number-small : (n p : ℕ) → numberAt c n p < 13
 unfolding numberAt nameOf
 number-small n p = omega arith
 
-kind-small : (n p : ℕ) → numberOf (kindAt c n p) < 13
+-- a kind that has such a number
+abbrev SmallKind : Kind → Type 0
+SmallKind k = (numberIn k < 13) × (markIn k < 2)
+
+kind-small : (n p : ℕ) → SmallKind (kindAt c n p)
 unfolding kindAt
 kind-small n p =
-    if-cases (λ (k : Kind). numberOf k < 13) (leap (numberAt c n p)) (ordinary (numberAt c n p)) (leapAt c n p)
-    (λ _. number-small n p) (λ _. number-small n p)
+    if-cases SmallKind (leap (numberAt c n p)) (ordinary (numberAt c n p)) (leapAt c n p) (λ _. (number-small n p, omega arith))
+    (λ _. (number-small n p, omega arith))
 
 month-fits : (d : ℕ) → earliest ≤ d → d ≤ latest → Fits (monthOfDay c d)
 unfolding monthOfDay placed
 month-fits d since until =
-    let l : ℕ = monthOf c d in
     let held = month-held d since until in
     let listed : InList c (yearOf c (monthOf c d)) (monthOf c d) = year-listed c shoushi-lawful (monthOf c d) in
     let admitted : yearOf c (monthOf c d) < suc lastYear =
     order-back (head c) (head-rises c shoushi-lawful) (yearOf c (monthOf c d)) (suc lastYear)
     (omega (arith, figures, month-most d since until, listed)) in
+    let kind = kind-small (yearOf c (monthOf c d)) (monthOf c d - head c (yearOf c (monthOf c d))) in
     record {
       first = omega (arith, held);
       year = omega arith;
       place = omega (arith, listed, months-in-most c shoushi-lawful (yearOf c (monthOf c d)));
       day = omega (arith, held, shoushi-lawful .month-most (monthOf c d));
       length = omega (arith, held, shoushi-lawful .month-most (monthOf c d));
-      number = omega (arith, kind-small (yearOf c (monthOf c d)) (monthOf c d - head c (yearOf c (monthOf c d))));
+      number = omega (arith, kind);
+      mark = omega (arith, kind);
     }
 
 abbrev pub ReplyFits : Reply MonthOfDay → Type 0

@@ -1,3 +1,3 @@
 pub mod Fitting
-pub mod Rest
 pub mod ByteLaws
+pub mod YearReply

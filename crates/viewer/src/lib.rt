@@ -1,19 +1,24 @@
 // What the viewer calls: the month of a day, and the list of a year as bytes.
-use months::Kind;
+use measure::Answer;
+use measure::SHORT_ROW;
 use months::Month;
+use months::RECORD_WIDTH;
 use months::Reply;
+use months::YEAR_ROOM;
 ghost use mathlib.Core.Path.{_≡_};
 ghost use Prim.Native.Nat.{_*_, _≤_, _<_};
 ghost use lib.ListN.{length, take};
 ghost use Rattle.measure.specs.Epoch.{shoushi};
 ghost use Rattle.measure.specs.Reply.{answer, refused};
-ghost use Rattle.measure.specs.Row.{over};
-ghost use Rattle.months.specs.Month.{dayReply, kindSaid, monthSaid};
-ghost use Rattle.viewer.specs.Told.{numberOf, markOf, dayTold};
-ghost use Rattle.viewer.specs.Sizes.{Fits};
-ghost use Rattle.viewer.specs.Bytes.{numberBytes, lowFirst, bytesOf};
+ghost use Rattle.measure.specs.Row.{over, rowAfter};
+ghost use Rattle.month_law.specs.Calendar.{monthsIn};
+ghost use Rattle.month_law.specs.Edition.{calendar};
+ghost use Rattle.months.specs.Month.{dayReply, monthSaid};
+ghost use Rattle.months.specs.Records.{recordsOf, listReply};
+ghost use Rattle.viewer.specs.Bytes.{numberBytes, lowFirst, bytesOf, roomIn};
+ghost use Rattle.viewer.specs.Told.{Fits, dayTold, countTold};
 
-// A reply about a day. In a month, refused is 0; a refusal has its number there and 0 in every other field, and no month has length 0.
+// A reply about a day. In a month, refused is 0; a refusal has its number there and 0 in every other field. No month has length 0.
 #[repr(C)]
 pub struct Day {
     pub first: u32,
@@ -26,6 +31,7 @@ pub struct Day {
     pub refused: u8,
 }
 
+// How many records were written. Where the question is refused, its number stands in refused and no record was written.
 #[repr(C)]
 pub struct Count {
     pub refused: u32,
@@ -43,6 +49,36 @@ pub extern "C" fn lengadriu_day(d: u64) -> Day
     }
 }
 
+// The records of year n as bytes, from the row's start; how many there are. A year past the last is refused with 1, then a row without
+// room for 13 records with 4.
+#[no_mangle]
+pub extern "C" fn lengadriu_year(row: &mut [u8], n: u64) -> Count
+    ensures { λ r. ⌜ r ≡ countTold (listReply shoushi n (roomIn (now (row .entry)))) ⌝ }
+    ensures { λ _. ⌜ now (row .exit) ≡ rowAfter (listReply shoushi n (roomIn (now (row .entry)))) (bytesOf (recordsOf (calendar shoushi) n (monthsIn (calendar shoushi) n))) (now (row .entry)) ⌝ }
+{
+    let mut numbers = [0u64; YEAR_NUMBERS];
+    match months::list(n, &mut numbers) {
+        Answer::Number(records) => {
+            if row.len() / RECORD_BYTES < YEAR_ROOM as usize {
+                return count_refused(SHORT_ROW);
+            }
+            put_numbers(&numbers, records as usize * RECORD_WIDTH, row);
+            Count {
+                refused: 0,
+                records: records as u32,
+            }
+        }
+        Answer::Refused(k) => count_refused(k),
+    }
+}
+
+const NUMBER_BYTES: usize = 4;
+
+const RECORD_BYTES: usize = RECORD_WIDTH * NUMBER_BYTES;
+
+// How many numbers the records of a year are at most.
+const YEAR_NUMBERS: usize = YEAR_ROOM as usize * RECORD_WIDTH;
+
 fn month_told(m: Month) -> Day
     requires { ⌜ Fits (monthSaid m) ⌝ }
     ensures { λ r. ⌜ r ≡ dayTold (answer (monthSaid m)) ⌝ }
@@ -54,8 +90,8 @@ fn month_told(m: Month) -> Day
         place: m.place as u8,
         day: m.day as u8,
         length: m.length as u8,
-        number: number_of(kind) as u8,
-        leap: mark_of(kind),
+        number: months::number_in(kind) as u8,
+        leap: months::leap_mark(kind) as u8,
         refused: 0,
     }
 }
@@ -76,25 +112,15 @@ fn day_refused(k: u64) -> Day
     }
 }
 
-fn number_of(kind: Kind) -> u64
-    ensures { λ r. ⌜ r ≡ numberOf (kindSaid kind) ⌝ }
+fn count_refused(k: u64) -> Count
+    requires { ⌜ k < 256 ⌝ }
+    ensures { λ r. ⌜ r ≡ countTold (refused k) ⌝ }
 {
-    match kind {
-        Kind::Ordinary(n) => n,
-        Kind::Leap(n) => n,
+    Count {
+        refused: k as u32,
+        records: 0,
     }
 }
-
-fn mark_of(kind: Kind) -> u8
-    ensures { λ r. ⌜ r ≡ markOf (kindSaid kind) ⌝ }
-{
-    match kind {
-        Kind::Ordinary(_) => 0,
-        Kind::Leap(_) => 1,
-    }
-}
-
-const NUMBER_BYTES: usize = 4;
 
 // The first k numbers as bytes, from the row's start.
 fn put_numbers(numbers: &[u64], k: usize, row: &mut [u8])

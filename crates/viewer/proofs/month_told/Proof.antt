@@ -18,17 +18,20 @@ cast-t6 c = search needs
 cast-t7 : tie.Need-cast-t7
 cast-t7 c = search needs
 
-number-of-requires : tie.Need-number-of-requires
-number-of-requires c κs = search needs
+number-in-requires : tie.Need-number-in-requires
+number-in-requires c κs = search needs
 
 cast-t9 : tie.Need-cast-t9
 cast-t9 c = search needs
 
-mark-of-requires : tie.Need-mark-of-requires
-mark-of-requires c κs = search needs
+leap-mark-requires : tie.Need-leap-mark-requires
+leap-mark-requires c κs = search needs
+
+cast-t11 : tie.Need-cast-t11
+cast-t11 c = search needs
 
 returns : tie.Need-returns
-returns c = rw (c .before .number-of .ensures, c .mark-of .ensures)
+returns c = rw (c .before .number-in .ensures, c .leap-mark .ensures)
 
 pub month-told-spec : {M : Type 1} → statement M
 month-told-spec =
@@ -39,7 +42,8 @@ month-told-spec =
     cast-t5
     cast-t6
     cast-t7
-    number-of-requires
+    number-in-requires
     cast-t9
-    mark-of-requires
+    leap-mark-requires
+    cast-t11
     returns)

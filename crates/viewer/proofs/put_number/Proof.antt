@@ -1,9 +1,14 @@
--- `viewer::put_number` meets its contract. Assumes nothing.
+-- `viewer::put_number` meets its contract: one store after the other. Assumes nothing.
+use mathlib.Core.List.{[], _∷_}
+use mathlib.Core.Path.{refl}
+use Prim.Native.Nat.{_/_, _%_}
 use native.Mathlib.Omega.{arith}
 use lib.ListN.{length-set}
 use borrow.Author.Needs.{needs}
+use denote.Ref.{now}
+use Rattle.measure.specs.Row.{over}
+use Rattle.measure.proofs.Row.{put}
 use Rattle.viewer.specs.Bytes.{lowFirst}
-use Rattle.viewer.proofs.Rest.{four}
 use Rattle.viewer.proofs.put_number.Statement.{statement}
 use Rattle.viewer.proofs.put_number.Tie as tie
 
@@ -35,8 +40,15 @@ same-length : tie.Need-same-length
 same-length c = search needs
 
 returns : tie.Need-returns
-unfolding lowFirst
-returns c = four _ _ _ _ _ (c .pre)
+unfolding lowFirst over
+returns c =
+    let row = now (c .args .row) in
+    let n = c .args .n in
+    put (n % 256 ∷ n / 256 % 256 ∷ n / 65_536 % 256 ∷ []) row _ (n / 16_777_216 % 256) 3
+    (put (n % 256 ∷ n / 256 % 256 ∷ []) row _ (n / 65_536 % 256) 2
+    (put (n % 256 ∷ []) row _ (n / 256 % 256) 1 (put [] row _ (n % 256) 0 refl refl (omega arith)) refl (omega arith)) refl
+    (omega arith))
+    refl (omega arith)
 
 pub put-number-spec : {M : Type 1} → statement M
 put-number-spec =

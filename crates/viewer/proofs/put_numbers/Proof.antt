@@ -8,8 +8,8 @@ use lib.ListN.{length, take, getD, length-take, length-drop}
 use borrow.Rule.Slice.PartMut.{same-len-mid}
 use denote.Ref.{now}
 use Rattle.measure.specs.Row.{over}
+use Rattle.measure.proofs.Row.{grow}
 use Rattle.viewer.specs.Bytes.{numberBytes, lowFirst, bytesOf}
-use Rattle.viewer.proofs.Rest.{grow}
 use Rattle.viewer.proofs.ByteLaws.{length-bytes-taken, bytes-more}
 use Rattle.viewer.proofs.put_numbers.Statement.{statement}
 use Rattle.viewer.proofs.put_numbers.Tie as tie
