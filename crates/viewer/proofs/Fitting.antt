@@ -1,4 +1,4 @@
--- The numbers of every reply fit the struct that the viewer is told.
+-- The numbers of every reply about a day fit the struct that the viewer is told; a month has days, and no refusal is numbered 0.
 -- Assumes nothing.
 use mathlib.Core.Bool.{true, false}
 use mathlib.Core.Logic.{⊎-elim}
@@ -26,7 +26,7 @@ use Rattle.viewer.specs.Told.{Fits}
 abbrev c : Calendar
 c = calendar shoushi
 
-number-small : (n p : ℕ) → numberAt c n p < 13
+pub number-small : (n p : ℕ) → numberAt c n p < 13
 unfolding numberAt nameOf
 number-small n p = omega arith
 
@@ -59,9 +59,13 @@ month-fits d since until =
       mark = omega (arith, kind);
     }
 
+month-days : (d : ℕ) → 29 ≤ monthOfDay c d .length
+unfolding monthOfDay placed
+month-days d = omega (arith, shoushi-lawful .month-least (monthOf c d))
+
 abbrev pub ReplyFits : Reply MonthOfDay → Type 0
-ReplyFits (answer m) = Fits m
-ReplyFits (refused k) = k < 256
+ReplyFits (answer m) = Fits m × (29 ≤ m .length)
+ReplyFits (refused k) = (0 < k) × (k < 256)
 
 pub reply-fits : (d : ℕ) → ReplyFits (dayReply shoushi d)
 unfolding dayReply
@@ -69,6 +73,6 @@ reply-fits d =
     ⊎-elim (λ (h : d < earliest). rw (lt-ltb d earliest h) (omega arith))
     (λ (since : earliest ≤ d).
     ⊎-elim (λ (h : latest < d). rw (le-ltb d earliest since, lt-ltb latest d h) (omega arith))
-    (λ (until : d ≤ latest). rw (le-ltb d earliest since, le-ltb latest d until) (month-fits d since until))
+    (λ (until : d ≤ latest). rw (le-ltb d earliest since, le-ltb latest d until) (month-fits d since until, month-days d))
     (lt-or-ge latest d))
     (lt-or-ge d earliest)

@@ -27,15 +27,15 @@ c = calendar shoushi
 
 -- the three replies that there are
 module _ (n room : ℕ) where
-  no-year : lastYear < n → listReply shoushi n room ≡ refused noYear
+  pub no-year : lastYear < n → listReply shoushi n room ≡ refused noYear
   unfolding listReply
   no-year h = rw (lt-ltb lastYear n h)
 
-  no-room : n ≤ lastYear → room < yearRoom → listReply shoushi n room ≡ refused shortRow
+  pub no-room : n ≤ lastYear → room < yearRoom → listReply shoushi n room ≡ refused shortRow
   unfolding listReply
   no-room h g = rw (le-ltb lastYear n h, lt-ltb room yearRoom g)
 
-  listed : n ≤ lastYear → yearRoom ≤ room → listReply shoushi n room ≡ answer (monthsIn c n)
+  pub listed : n ≤ lastYear → yearRoom ≤ room → listReply shoushi n room ≡ answer (monthsIn c n)
   unfolding listReply
   listed h g = rw (le-ltb lastYear n h, le-ltb room yearRoom g)
 

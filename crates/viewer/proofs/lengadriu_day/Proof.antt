@@ -28,7 +28,7 @@ enum-known-m c = search needs
 month-told-requires : tie.Need-month-told-requires
 month-told-requires c κs =
     let at = c .before .before .before in
-    fits (at .before .args .d) (at .month-of .result) _ (at .month-of .ensures) (c .before .m .given .1)
+    fits (at .before .args .d) (at .month-of .result) _ (at .month-of .ensures) (c .before .m .given .1) .0
 
 enum-known-k : tie.Need-enum-known-k
 enum-known-k c = search needs
@@ -36,7 +36,7 @@ enum-known-k c = search needs
 day-refused-requires : tie.Need-day-refused-requires
 day-refused-requires c κs =
     let at = c .before .before .before in
-    fits (at .before .args .d) (at .month-of .result) _ (at .month-of .ensures) (c .before .k .given .1)
+    fits (at .before .args .d) (at .month-of .result) _ (at .month-of .ensures) (c .before .k .given .1) .1
 
 returns : tie.Need-returns
 returns c =
