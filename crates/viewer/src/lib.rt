@@ -1,1 +1,147 @@
-// What the viewer calls: so far the record's bytes, in specs/.
+// What the viewer calls: the month of a day, and the list of a year as bytes.
+use measure::Answer;
+use measure::SHORT_ROW;
+use months::Month;
+use months::RECORD_WIDTH;
+use months::Reply;
+use months::YEAR_ROOM;
+ghost use mathlib.Core.Path.{_≡_};
+ghost use Prim.Native.Nat.{_*_, _≤_, _<_};
+ghost use lib.ListN.{length, take};
+ghost use Rattle.measure.specs.Epoch.{shoushi};
+ghost use Rattle.measure.specs.Reply.{answer, refused};
+ghost use Rattle.measure.specs.Row.{over, rowAfter};
+ghost use Rattle.month_law.specs.Calendar.{monthsIn};
+ghost use Rattle.month_law.specs.Edition.{calendar};
+ghost use Rattle.months.specs.Month.{dayReply, monthSaid};
+ghost use Rattle.months.specs.Records.{recordsOf, listReply};
+ghost use Rattle.viewer.specs.Bytes.{numberBytes, lowFirst, bytesOf, roomIn};
+ghost use Rattle.viewer.specs.Told.{Fits, dayTold, countTold};
+
+// A reply about a day. In a month, refused is 0; a refusal has its number there and 0 in every other field. No month has length 0.
+#[repr(C)]
+pub struct Day {
+    pub first: u32,
+    pub year: u16,
+    pub place: u8,
+    pub day: u8,
+    pub length: u8,
+    pub number: u8,
+    pub leap: u8,
+    pub refused: u8,
+}
+
+// How many records were written. Where the question is refused, its number stands in refused and no record was written.
+#[repr(C)]
+pub struct Count {
+    pub refused: u32,
+    pub records: u32,
+}
+
+// The month in which a day lies. A day outside the calendar is refused with 3.
+#[no_mangle]
+pub extern "C" fn lengadriu_day(d: u64) -> Day
+    ensures { λ r. ⌜ r ≡ dayTold (dayReply shoushi d) ⌝ }
+{
+    match months::month_of(d) {
+        Reply::Month(m) => month_told(m),
+        Reply::Refused(k) => day_refused(k),
+    }
+}
+
+// The records of year n as bytes, from the row's start; how many there are. A year past the last is refused with 1, then a row without
+// room for 13 records with 4.
+#[no_mangle]
+pub extern "C" fn lengadriu_year(row: &mut [u8], n: u64) -> Count
+    ensures { λ r. ⌜ r ≡ countTold (listReply shoushi n (roomIn (now (row .entry)))) ⌝ }
+    ensures { λ _. ⌜ now (row .exit) ≡ rowAfter (listReply shoushi n (roomIn (now (row .entry)))) (bytesOf (recordsOf (calendar shoushi) n (monthsIn (calendar shoushi) n))) (now (row .entry)) ⌝ }
+{
+    let mut numbers = [0u64; YEAR_NUMBERS];
+    match months::list(n, &mut numbers) {
+        Answer::Number(records) => {
+            if row.len() / RECORD_BYTES < YEAR_ROOM as usize {
+                return count_refused(SHORT_ROW);
+            }
+            put_numbers(&numbers, records as usize * RECORD_WIDTH, row);
+            Count {
+                refused: 0,
+                records: records as u32,
+            }
+        }
+        Answer::Refused(k) => count_refused(k),
+    }
+}
+
+const NUMBER_BYTES: usize = 4;
+
+const RECORD_BYTES: usize = RECORD_WIDTH * NUMBER_BYTES;
+
+// How many numbers the records of a year are at most.
+const YEAR_NUMBERS: usize = YEAR_ROOM as usize * RECORD_WIDTH;
+
+fn month_told(m: Month) -> Day
+    requires { ⌜ Fits (monthSaid m) ⌝ }
+    ensures { λ r. ⌜ r ≡ dayTold (answer (monthSaid m)) ⌝ }
+{
+    let kind = m.kind;
+    Day {
+        first: m.first as u32,
+        year: m.year as u16,
+        place: m.place as u8,
+        day: m.day as u8,
+        length: m.length as u8,
+        number: months::number_in(kind) as u8,
+        leap: months::leap_mark(kind) as u8,
+        refused: 0,
+    }
+}
+
+fn day_refused(k: u64) -> Day
+    requires { ⌜ k < 256 ⌝ }
+    ensures { λ r. ⌜ r ≡ dayTold (refused k) ⌝ }
+{
+    Day {
+        first: 0,
+        year: 0,
+        place: 0,
+        day: 0,
+        length: 0,
+        number: 0,
+        leap: 0,
+        refused: k as u8,
+    }
+}
+
+fn count_refused(k: u64) -> Count
+    requires { ⌜ k < 256 ⌝ }
+    ensures { λ r. ⌜ r ≡ countTold (refused k) ⌝ }
+{
+    Count {
+        refused: k as u32,
+        records: 0,
+    }
+}
+
+// The first k numbers as bytes, from the row's start.
+fn put_numbers(numbers: &[u64], k: usize, row: &mut [u8])
+    requires { ⌜ (k ≤ length (now numbers)) × (numberBytes * k ≤ length (now row)) ⌝ }
+    ensures { λ _. ⌜ now (row .exit) ≡ over (bytesOf (take k (now (numbers .entry)))) (now (row .entry)) ⌝ }
+{
+    let mut i: usize = 0;
+    while i < k {
+        let used = i * NUMBER_BYTES;
+        put_number(numbers[i], &mut row[used..]);
+        i += 1;
+    }
+}
+
+// A number of 32 bits, low byte first, at the row's start.
+fn put_number(n: u64, row: &mut [u8])
+    requires { ⌜ numberBytes ≤ length (now row) ⌝ }
+    ensures { λ _. ⌜ now (row .exit) ≡ over (lowFirst n) (now (row .entry)) ⌝ }
+{
+    row[0] = (n % 256) as u8;
+    row[1] = (n / 256 % 256) as u8;
+    row[2] = (n / 65_536 % 256) as u8;
+    row[3] = (n / 16_777_216 % 256) as u8;
+}

@@ -1,0 +1,5 @@
+pub mod Fitting
+pub mod ByteLaws
+pub mod YearReply
+pub mod ReadBack
+pub mod Unique

@@ -1,0 +1,156 @@
+-- What the viewer is told says the whole reply: months, refusals and records are read back from the structs and the bytes as they were.
+-- So no refusal can be taken for a month, and no place of a number is lost.
+-- Assumes nothing.
+use mathlib.Core.List.{List, [], _∷_, _++_}
+use mathlib.Core.Logic.{⊎-elim}
+use mathlib.Core.Path.{_≡_, refl, sym, ap₂}
+use Prim.Native.Nat.{ℕ, zero, suc, _+_, _*_, _/_, _%_, _≤_, _<_}
+use native.Mathlib.Nat.{div-div-eq-div-mul}
+use native.Mathlib.Omega.{arith}
+use borrow.Author.Tests.{ne-eqb}
+use Rattle.measure.specs.Choice.{if_then_else_, _=?_}
+use Rattle.measure.specs.Reply.{Reply, answer, refused}
+use Rattle.measure.specs.Units.{lastYear}
+use Rattle.measure.specs.Epoch.{shoushi}
+use Rattle.measure.proofs.Choice.{lt-or-ge, if-cases}
+use Rattle.month_law.specs.Calendar.{Calendar, monthsIn, head, leapAt, leapMark}
+use Rattle.month_law.specs.Edition.{calendar}
+use Rattle.month_law.proofs.Rising.{rises-weakly}
+use Rattle.month_law.proofs.Months.{first-rises}
+use Rattle.month_law.proofs.Edition.{figures, shoushi-lawful}
+use Rattle.months.specs.Month.{Kind, ordinary, leap, MonthOfDay, numberIn, markIn, dayReply}
+use Rattle.months.specs.Records.{yearRoom, recordAt, recordsOf, listReply}
+use Rattle.months.proofs.Reach.{list-most}
+use Rattle.viewer.specs.Bytes.{lowFirst, bytesOf}
+use Rattle.viewer.specs.Told.{dayTold, countTold}
+use Rattle.viewer.specs.declared.Day.{Day}
+use Rattle.viewer.specs.declared.Count.{Count}
+use Rattle.viewer.proofs.Fitting.{number-small, ReplyFits, reply-fits}
+use Rattle.viewer.proofs.YearReply.{no-year, no-room, listed}
+
+-- what a struct says
+abbrev kindRead : ℕ → ℕ → Kind
+kindRead number mark = if mark =? 0 then ordinary number else leap number
+
+unfoldable pub dayRead : Day → Reply MonthOfDay
+dayRead t =
+    if t .refused =? 0
+    then
+    answer
+    (record {
+      kind = kindRead (t .number) (t .leap);
+      year = t .year;
+      place = t .place;
+      day = t .day;
+      first = t .first;
+      length = t .length;
+    })
+    else refused (t .refused)
+
+unfoldable pub countRead : Count → Reply ℕ
+countRead t = if t .refused =? 0 then answer (t .records) else refused (t .refused)
+
+kind-back : (k : Kind) → kindRead (numberIn k) (markIn k) ≡ k
+kind-back (ordinary n) = refl
+kind-back (leap n) = refl
+
+told-back : (r : Reply MonthOfDay) → ReplyFits r → dayRead (dayTold r) ≡ r
+unfolding dayRead
+told-back (answer m) h =
+    λ i.
+    answer
+    (record {
+      kind = kind-back (m .kind) i;
+      year = m .year;
+      place = m .place;
+      day = m .day;
+      first = m .first;
+      length = m .length;
+    })
+told-back (refused k) h = rw (ne-eqb k 0 (λ e. omega arith))
+
+-- the month of a day, or its refusal
+pub day-back : (d : ℕ) → dayRead (dayTold (dayReply shoushi d)) ≡ dayReply shoushi d
+day-back d = told-back (dayReply shoushi d) (reply-fits d)
+
+-- where nothing is refused, the month has its days
+days-told : (r : Reply MonthOfDay) → ReplyFits r → dayTold r .refused ≡ 0 → 29 ≤ dayTold r .length
+days-told (answer m) h e = h .1
+days-told (refused k) h e = omega arith
+
+pub month-has-days : (d : ℕ) → dayTold (dayReply shoushi d) .refused ≡ 0 → 29 ≤ dayTold (dayReply shoushi d) .length
+month-has-days d = days-told (dayReply shoushi d) (reply-fits d)
+
+-- how many records there are, or why none
+pub count-back : (n room : ℕ) → countRead (countTold (listReply shoushi n room)) ≡ listReply shoushi n room
+unfolding countRead
+count-back n room =
+    ⊎-elim (λ (h : lastYear < n). rw (no-year n room h))
+    (λ (h : n ≤ lastYear).
+    ⊎-elim (λ (g : room < yearRoom). rw (no-room n room h g)) (λ (g : yearRoom ≤ room). rw (listed n room h g))
+    (lt-or-ge room yearRoom))
+    (lt-or-ge lastYear n)
+
+-- the number that four bytes say, low byte first
+abbrev joined : ℕ → ℕ → ℕ → ℕ → ℕ
+joined a b c d = a + 256 * b + 65_536 * c + 16_777_216 * d
+
+by-quotients : (n a b c : ℕ) → a ≡ n / 256 → b ≡ a / 256 → c ≡ b / 256 → n < 4_294_967_296
+    → joined (n % 256) (a % 256) (b % 256) (c % 256) ≡ n
+by-quotients n a b c ea eb ec h = let small : c < 256 = omega arith in omega arith
+
+joined-back : (n : ℕ) → n < 4_294_967_296 → joined (n % 256) (n / 256 % 256) (n / 65_536 % 256) (n / 16_777_216 % 256) ≡ n
+joined-back n h =
+    by-quotients n (n / 256) (n / 65_536) (n / 16_777_216) refl (sym (div-div-eq-div-mul n 256 256))
+    (sym (div-div-eq-div-mul n 65_536 256)) h
+
+-- the numbers that a row of bytes says, four bytes each
+unfoldable pub numbersRead : List ℕ → List ℕ
+numbersRead (a ∷ b ∷ c ∷ d ∷ rest) = joined a b c d ∷ numbersRead rest
+numbersRead (a ∷ b ∷ c ∷ []) = []
+numbersRead (a ∷ b ∷ []) = []
+numbersRead (a ∷ []) = []
+numbersRead [] = []
+
+-- a row of numbers of 32 bits
+Small : List ℕ → Type 0
+Small [] = Unit {0}
+Small (n ∷ ns) = (n < 4_294_967_296) × Small ns
+
+small-append : (xs ys : List ℕ) → Small xs → Small ys → Small (xs ++ ys)
+unfolding Small
+small-append [] ys h g = g
+small-append (x ∷ xs) ys h g = (h .0, small-append xs ys (h .1) g)
+
+bytes-back : (ns : List ℕ) → Small ns → numbersRead (bytesOf ns) ≡ ns
+unfolding numbersRead bytesOf lowFirst Small
+bytes-back [] h = refl
+bytes-back (n ∷ ns) h = ap₂ _∷_ (joined-back n (h .0)) (bytes-back ns (h .1))
+
+abbrev c : Calendar
+c = calendar shoushi
+
+mark-small : (n p : ℕ) → leapMark c n p < 2
+mark-small n p = if-cases (λ (m : ℕ). m < 2) 1 0 (leapAt c n p) (λ _. omega arith) (λ _. omega arith)
+
+module _ (n : ℕ) (year : n ≤ lastYear) where
+  record-small : (p : ℕ) → p < monthsIn c n → Small (recordAt c n p)
+  unfolding Small recordAt
+  record-small p h =
+      let l = head c n + p in (
+        omega (arith, figures, rises-weakly (c .first) (first-rises c shoushi-lawful) l 12_368 (omega (arith, list-most n year))),
+        (
+          omega (arith, shoushi-lawful .month-most l),
+          (omega (arith, number-small n p), (omega (arith, mark-small n p), tt)),
+        ),
+      )
+
+  records-small : (k : ℕ) → k ≤ monthsIn c n → Small (recordsOf c n k)
+  unfolding recordsOf Small
+  records-small zero h = tt
+  records-small (suc k) h =
+      small-append (recordsOf c n k) (recordAt c n k) (records-small k (omega arith)) (record-small k (omega arith))
+
+  -- the records of a year
+  pub records-back : numbersRead (bytesOf (recordsOf c n (monthsIn c n))) ≡ recordsOf c n (monthsIn c n)
+  records-back = bytes-back (recordsOf c n (monthsIn c n)) (records-small (monthsIn c n) (omega arith))

@@ -1,0 +1,56 @@
+//! The questions of the command line.
+
+use crate::{month_of, months_of, page, text, Refusal};
+
+pub const HELP: &str = "\
+The Shoushi calendar of 1281, asked through its proved functions.
+
+  viewer day D     the month in which running day D lies, 35 to 365268
+  viewer year N    the months of year N as a table; year 0 is 1281, the last is 999
+  viewer page N    the same year as a page of HTML, to print or for a phone:
+                   viewer page 0 > year.html
+  viewer help      this text
+
+Running day 0 is a jiazi day, and day 35 begins month 11 of year 0. Western dates are a courtesy, Julian up
+to 4 October 1582 and Gregorian from 15 October 1582 on. What is refused is told in one sentence with the
+refusal's number, and the exit status is then 2.
+";
+
+const MALFORMED: u32 = 5;
+
+/// Returns what a question's words are answered with, or a sentence that says why they are not.
+pub fn reply(words: &[&str]) -> Result<String, String> {
+    match words {
+        ["day", day] => about("Day", day, |d| Ok(text::day(d, &month_of(d)?))),
+        ["year", year] => about("Year", year, |n| Ok(text::year(n, &months_of(n)?))),
+        ["page", year] => about("Year", year, |n| Ok(page::year(n, &months_of(n)?))),
+        ["help" | "--help" | "-h"] => Ok(HELP.to_string()),
+        [] => Err(malformed("No question was asked")),
+        _ => Err(malformed(&format!("‘{}’ is no question", words.join(" ")))),
+    }
+}
+
+/// Returns a sentence about words that are no question.
+fn malformed(what: &str) -> String {
+    format!("{what}; ‘viewer help’ says what can be asked (refusal {MALFORMED}).")
+}
+
+/// Returns the answer about the number that a word gives, or a sentence about its refusal.
+fn about(
+    what: &str,
+    word: &str,
+    answer: impl Fn(u64) -> Result<String, Refusal>,
+) -> Result<String, String> {
+    let number = number_in(word)
+        .ok_or_else(|| malformed(&format!("‘{word}’ is not a whole number in digits")))?;
+    answer(number).map_err(|refusal| format!("{what} {word} is refused: {refusal}."))
+}
+
+/// Returns the number that a word of digits gives. One of more than 64 bits lies outside every list as
+/// the greatest of 64 bits does, and stands for it.
+fn number_in(word: &str) -> Option<u64> {
+    if word.is_empty() || !word.bytes().all(|byte| byte.is_ascii_digit()) {
+        return None;
+    }
+    Some(word.parse().unwrap_or(u64::MAX))
+}

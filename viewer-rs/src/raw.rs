@@ -1,0 +1,44 @@
+//! The two functions of the proved archive, and all of the viewer's unsafe code. Nothing but the tests
+//! holds these declarations to `crates/viewer/src/lib.rt`; `crates/viewer/viewer.h` says the same in C.
+
+/// A reply about a day. In a month `refused` is 0; a refusal has its number there and 0 elsewhere.
+#[repr(C)]
+#[derive(Clone, Copy, Debug, PartialEq, Eq)]
+pub struct Day {
+    pub first: u32,
+    pub year: u16,
+    pub place: u8,
+    pub day: u8,
+    pub length: u8,
+    pub number: u8,
+    pub leap: u8,
+    pub refused: u8,
+}
+
+/// How many records were written; where `refused` is not 0, none were.
+#[repr(C)]
+#[derive(Clone, Copy, Debug, PartialEq, Eq)]
+pub struct Count {
+    pub refused: u32,
+    pub records: u32,
+}
+
+extern "C" {
+    fn lengadriu_day(d: u64) -> Day;
+
+    // a lent row goes over as its address and its length
+    fn lengadriu_year(row: *mut u8, length: usize, n: u64) -> Count;
+}
+
+/// Returns the reply about a day.
+pub fn day(d: u64) -> Day {
+    // SAFETY: the function takes a number, touches no memory of ours, and is proved to return.
+    unsafe { lengadriu_day(d) }
+}
+
+/// Returns the reply to a year's list, having written its records into the lent row.
+pub fn year(row: &mut [u8], n: u64) -> Count {
+    // SAFETY: address and length are those of one slice, which no one else holds during the call, and
+    // the function is proved to stay inside it and to return.
+    unsafe { lengadriu_year(row.as_mut_ptr(), row.len(), n) }
+}

@@ -1,0 +1,82 @@
+//! Western dates, a courtesy: no reply of the calendar has one. The Julian calendar is used up to
+//! 4 October 1582 and the Gregorian from the next day, 15 October, on, wherever and whenever a country
+//! went over. All days of the calendar are later than the year 1, and none is reckoned backward.
+
+use std::fmt;
+
+/// Julian Day Numbers of running day 0 and of 15 October 1582.
+const DAY_ZERO: u64 = 2_188_871;
+const REFORM: u64 = 2_299_161;
+
+const MONTHS: [&str; 12] = [
+    "January",
+    "February",
+    "March",
+    "April",
+    "May",
+    "June",
+    "July",
+    "August",
+    "September",
+    "October",
+    "November",
+    "December",
+];
+
+/// A date of the Julian or the Gregorian calendar.
+#[derive(Clone, Copy, Debug, PartialEq, Eq)]
+pub struct Date {
+    pub year: u64,
+    /// 1 to 12.
+    pub month: u64,
+    pub day: u64,
+    pub gregorian: bool,
+}
+
+impl Date {
+    /// Returns the name of the calendar.
+    pub fn calendar(&self) -> &'static str {
+        if self.gregorian {
+            "Gregorian"
+        } else {
+            "Julian"
+        }
+    }
+
+    fn month_name(&self) -> &'static str {
+        MONTHS[self.month as usize - 1]
+    }
+
+    /// Returns the date with the month's first three letters.
+    pub fn short(&self) -> String {
+        format!("{} {} {}", self.day, &self.month_name()[..3], self.year)
+    }
+}
+
+impl fmt::Display for Date {
+    fn fmt(&self, f: &mut fmt::Formatter<'_>) -> fmt::Result {
+        write!(f, "{} {} {}", self.day, self.month_name(), self.year)
+    }
+}
+
+/// Returns the date of a running day of the calendar.
+pub fn date_of(day: u64) -> Date {
+    let number = DAY_ZERO + day;
+    let gregorian = number >= REFORM;
+    // the days that the Gregorian calendar has left out by then
+    let left_out = if gregorian {
+        (4 * number + 274_277) / 146_097 * 3 / 4 - 38
+    } else {
+        0
+    };
+    // years counted from 1 March, so that the leap day is the last
+    let quarter_days = 4 * (number + 1_401 + left_out) + 3;
+    let fifths = 5 * (quarter_days % 1_461 / 4) + 2;
+    let month = (fifths / 153 + 2) % 12 + 1;
+    Date {
+        year: quarter_days / 1_461 + (14 - month) / 12 - 4_716,
+        month,
+        day: fifths % 153 / 5 + 1,
+        gregorian,
+    }
+}
