@@ -5,7 +5,21 @@ mod plain;
 use std::hint::black_box;
 use std::time::Instant;
 
+/// The viewer's reply about a day.
+#[repr(C)]
+struct Day {
+    first: u32,
+    year: u16,
+    place: u8,
+    day: u8,
+    length: u8,
+    number: u8,
+    leap: u8,
+    refused: u8,
+}
+
 extern "C" {
+    fn lengadriu_day(d: u64) -> Day;
     fn timing_true_moon(l: u64, q: u64) -> u64;
     fn timing_run(row: *mut u64, length: usize, n: u64, count: u64) -> u64;
 }
@@ -95,6 +109,46 @@ fn runs() -> bool {
     )
 }
 
+/// Every part of a reply counts, so that none is left out of the work.
+fn days() -> bool {
+    let asked: Vec<u64> = shuffled(100_000, 365_234).iter().map(|d| d + 35).collect();
+    let mix = |parts: [u64; 7]| {
+        parts
+            .iter()
+            .fold(0u64, |sum, x| sum.wrapping_mul(31).wrapping_add(*x))
+    };
+    let ours = || {
+        asked.iter().fold(0u64, |sum, d| {
+            let m = unsafe { lengadriu_day(*d) };
+            assert_eq!(m.refused, 0);
+            let parts = [
+                m.year as u64,
+                m.place as u64,
+                m.day as u64,
+                m.first as u64,
+                m.length as u64,
+                m.number as u64,
+                m.leap as u64,
+            ];
+            sum.wrapping_add(mix(parts))
+        })
+    };
+    let theirs = || {
+        asked.iter().fold(0u64, |sum, d| {
+            let m = plain::day(*d).expect("an admitted day");
+            let r = m.record;
+            sum.wrapping_add(mix([
+                m.year, m.place, m.day, r.first, r.length, r.number, r.leap,
+            ]))
+        })
+    };
+    report(
+        "a day's month",
+        race(20, asked.len() as u64, ours, theirs),
+        0.5,
+    )
+}
+
 fn main() {
     println!(
         "{}, {} build, least of several rounds",
@@ -105,7 +159,7 @@ fn main() {
             "release"
         }
     );
-    let good = [true_moons(), runs()];
+    let good = [true_moons(), days(), runs()];
     if good.contains(&false) {
         std::process::exit(1);
     }

@@ -192,18 +192,21 @@ pub fn day(d: u64) -> Option<Found> {
         return None;
     }
     let mut row = [Record::default(); 13];
-    let mut year = (d * DAY).saturating_sub(SOLSTICE) / YEAR;
-    if year < 999 && first(head(year + 1)) <= d {
-        year += 1;
+    // the last days before a solstice may lie in the month that heads its year
+    let before = (d * DAY).saturating_sub(SOLSTICE) / YEAR;
+    for year in before..=999 {
+        let (count, _) = list_from(year, head(year), &mut row);
+        let found = row[..count]
+            .iter()
+            .position(|m| m.first <= d && d < m.first + m.length);
+        if let Some(place) = found {
+            return Some(Found {
+                year,
+                place: place as u64,
+                day: d - row[place].first + 1,
+                record: row[place],
+            });
+        }
     }
-    let (count, _) = list_from(year, head(year), &mut row);
-    let place = row[..count]
-        .iter()
-        .position(|m| m.first <= d && d < m.first + m.length)?;
-    Some(Found {
-        year,
-        place: place as u64,
-        day: d - row[place].first + 1,
-        record: row[place],
-    })
+    None
 }
