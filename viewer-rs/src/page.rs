@@ -1,17 +1,10 @@
 //! A year as a page of HTML that needs nothing besides itself.
 
 use crate::names::{self, Name, TERMS};
-use crate::terms;
-use crate::text::{number, western_note};
-use crate::{month_of, western, western_year, Month, MonthOfDay};
+use crate::text::western_note;
+use crate::{month_of, terms, western, western_year, Month, MonthOfDay};
 
 const STYLE: &str = include_str!("page.css");
-
-/// A term that falls on a day of the page's months.
-struct Falling {
-    term: u64,
-    day: u64,
-}
 
 /// Returns the page of a year.
 pub fn year(year: u64, months: &[Month]) -> String {
@@ -20,19 +13,19 @@ pub fn year(year: u64, months: &[Month]) -> String {
     let falling = falling(year);
     let rows: String = months.iter().map(|month| row(month, &falling)).collect();
     let listed: String = (0..=terms::LAST).map(|term| listed(year, term)).collect();
-    let year_name = chinese(&format!("歲次{}", name.chinese));
     format!(
         "<!DOCTYPE html>\n<html lang=\"en\">\n<head>\n<meta charset=\"utf-8\">\n\
          <meta name=\"viewport\" content=\"width=device-width, initial-scale=1\">\n\
          <title>Shoushi year {year} ({western})</title>\n<style>\n{STYLE}</style>\n</head>\n<body>\n\
          <header>\n<h1>{} <span>Shoushi year {year}</span></h1>\n\
-         <p class=\"year\">{year_name} {}, {western}</p>\n<p>{}</p>\n</header>\n\
+         <p class=\"year\">{} {}, {western}</p>\n<p>{}</p>\n</header>\n<main>\n\
          <table class=\"months\">\n\
          <thead><tr><th>Month</th><th>First day</th><th>Days and terms</th></tr></thead>\n\
          <tbody>\n{rows}</tbody>\n</table>\n\
-         <section>\n<h2>{} <span>The 24 terms</span></h2>\n<ol class=\"terms\">\n{listed}</ol>\n</section>\n\
+         <h2>{} <span>The 24 terms</span></h2>\n<ol class=\"terms\">\n{listed}</ol>\n</main>\n\
          <footer>\n{}<p>{}</p>\n</footer>\n</body>\n</html>\n",
         chinese("授時曆"),
+        chinese(&format!("歲次{}", name.chinese)),
         romanised(&name.romanised),
         summary(year, months),
         chinese("二十四氣"),
@@ -41,157 +34,147 @@ pub fn year(year: u64, months: &[Month]) -> String {
     )
 }
 
-/// Returns the terms that fall on days of a year's months: its own, and the last of the year before,
-/// which may fall in the first month.
-fn falling(year: u64) -> Vec<Falling> {
+/// Returns the terms with their days that a year's months may hold: its own, and the last of the year
+/// before.
+fn falling(year: u64) -> Vec<(u64, u64)> {
     let before = year.checked_sub(1).map(|before| (before, terms::LAST));
     let own = (0..=terms::LAST).map(|term| (year, term));
     before
         .into_iter()
         .chain(own)
-        .map(|(year, term)| Falling {
-            term,
-            day: terms::day_of(year, term),
-        })
+        .map(|(year, term)| (term, terms::day_of(year, term)))
         .collect()
 }
 
 /// Returns a sentence that sums the year up.
 fn summary(year: u64, months: &[Month]) -> String {
     let days: u32 = months.iter().map(|month| month.length).sum();
-    let leap = months
-        .iter()
-        .find(|month| month.leap)
-        .map(|month| {
-            let name = names::of_month(month);
-            format!(
-                ", one of them leap: {} {}",
-                chinese(&name.chinese),
-                romanised(&name.romanised)
-            )
-        })
-        .unwrap_or_default();
+    let leap = match months.iter().find(|month| month.leap) {
+        Some(month) => format!(", one of them leap ({})", both(&names::of_month(month))),
+        None => ", none of them leap".to_string(),
+    };
     let solstice = terms::day_of(year, 0);
     format!(
-        "{} months{leap}; {days} days. The winter solstice falls on day {solstice}, {}.",
+        "{} months{leap}; {days} days. Winter solstice on day {solstice}, {}.",
         months.len(),
         both(&names::of_day(solstice)),
     )
 }
 
 /// Returns the table row of a month.
-fn row(month: &Month, falling: &[Falling]) -> String {
+fn row(month: &Month, falling: &[(u64, u64)]) -> String {
     let name = names::of_month(month);
-    let (length, length_romanised) = names::of_length(month);
     let class = if month.leap { " class=\"leap\"" } else { "" };
     let first = u64::from(month.first);
     format!(
-        "<tr{class}>\n<th scope=\"row\">{}<span class=\"small\">month {} · {}</span></th>\n\
+        "<tr{class}>\n<th scope=\"row\">{} {}<span class=\"small\">{} · {} {} days</span></th>\n\
          <td class=\"first\">{}<span class=\"small\">day {first} · {}</span></td>\n\
-         <td class=\"length\"><span class=\"small\">{} {} · {} days</span>{}</td>\n</tr>\n",
+         <td class=\"length\">{}</td>\n</tr>\n",
         chinese(&name.chinese),
-        number(month),
         romanised(&name.romanised),
-        both(&names::of_day(first)),
-        western::date_of(first),
-        chinese(length),
-        romanised(length_romanised),
+        numbered(month),
+        chinese(names::of_length(month).0),
         month.length,
+        both(&names::of_day(first)),
+        western::date_of(first).short(),
         strip(month, falling),
     )
 }
 
 /// Returns a month's days drawn as cells, in three rounds of ten, with the terms marked.
-fn strip(month: &Month, falling: &[Falling]) -> String {
+fn strip(month: &Month, falling: &[(u64, u64)]) -> String {
     let first = u64::from(month.first);
     let mut cells = String::new();
-    let mut labels = String::new();
-    let mut said = Vec::new();
+    let mut said = String::new();
     for day in 1..=u64::from(month.length) {
-        let term = falling.iter().find(|each| each.day == first + day - 1);
-        let class = match term {
-            Some(each) if terms::is_middle(each.term) => " class=\"middle\"",
-            Some(_) => " class=\"node\"",
-            None => "",
-        };
-        let column = column(day);
-        cells += &format!("<i{class} style=\"grid-column:{column}\">{day}</i>");
-        if let Some(each) = term {
-            let name = &TERMS[each.term as usize];
-            // three columns wide, and inside the strip
-            let from = (column - 1).max(1).min(LAST_COLUMN - 2);
-            labels += &format!(
-                "<b lang=\"zh-Hant\" style=\"grid-column:{from}/span 3\">{}</b>",
-                name.chinese
-            );
-            said.push(format!("{} on day {day}", name.romanised));
+        if day > 1 && day % 10 == 1 {
+            cells += "</span><span>";
         }
+        let term = falling.iter().find(|each| each.1 == first + day - 1);
+        cells += &match term {
+            Some((term, _)) => {
+                let name = &TERMS[*term as usize];
+                said += &format!("; {} on day {day}", name.romanised);
+                marked_cell(day, *term, name.chinese)
+            }
+            None => format!("<i>{day}</i>"),
+        };
     }
-    let said = if said.is_empty() {
-        "no term".to_string()
-    } else {
-        said.join(", ")
-    };
     format!(
-        "<div class=\"days\" role=\"img\" aria-label=\"{} days; {said}\">{cells}{labels}</div>",
+        "<div class=\"days\" role=\"img\" aria-label=\"{} days{said}\"><span>{cells}</span></div>",
         month.length
     )
 }
 
-const LAST_COLUMN: u64 = 32;
-
-/// Returns the column of a day: a narrow one lies after each ten.
-fn column(day: u64) -> u64 {
-    day + (day - 1) / 10
+/// Returns the cell of a term's day.
+fn marked_cell(day: u64, term: u64, name: &str) -> String {
+    let class = class(term);
+    format!("<i class=\"{class}\">{day}<b lang=\"zh-Hant\">{name}</b></i>")
 }
 
 /// Returns the list item of a term.
 fn listed(year: u64, term: u64) -> String {
     let name = &TERMS[term as usize];
     let day = terms::day_of(year, term);
-    let class = if terms::is_middle(term) {
-        "middle"
-    } else {
-        "node"
-    };
     format!(
-        "<li class=\"{class}\"><span class=\"name\">{} {}</span> \
-         <span class=\"small\">{}</span>\n<span class=\"where\">{} · {}</span> \
-         <span class=\"small\">day {day} · {}</span></li>\n",
+        "<li class=\"{}\"><span class=\"name\">{} {}</span> <span class=\"small\">{}</span>\n\
+         <span class=\"where\">{}, {}</span> <span class=\"small\">day {day} · {}</span></li>\n",
+        class(term),
         chinese(name.chinese),
         romanised(name.romanised),
         name.english,
         place(year, month_of(day).ok()),
         both(&names::of_day(day)),
-        western::date_of(day),
+        western::date_of(day).short(),
     )
 }
 
 /// Returns where a term of a year falls.
 fn place(year: u64, month: Option<MonthOfDay>) -> String {
     match month {
-        None => "after the calendar's last day".to_string(),
-        Some(of) => {
-            let later = if u64::from(of.year) == year {
-                String::new()
-            } else {
-                format!(" of year {}", of.year)
-            };
-            format!("month {}{later}, day {}", number(&of.month), of.day)
+        // the last terms of the last year
+        None => "after the last month".to_string(),
+        Some(of) if u64::from(of.year) == year => {
+            format!("{}, day {}", numbered(&of.month), of.day)
         }
+        // the last term may fall in the first month of the next year
+        Some(of) => format!("year {}, {}, day {}", of.year, numbered(&of.month), of.day),
     }
 }
 
 /// Returns what the marks mean.
 fn legend() -> String {
     format!(
-        "<p><i class=\"middle\"></i> middle term ({}) <i class=\"node\"></i> node term ({}). A leap month ({}) holds \
-         no middle term. Months, lengths and leap marks are the replies of the proved calendar; the terms' days are \
-         sums made for this page.</p>\n",
+        "<p><i class=\"middle\"></i> middle term ({}) <i class=\"node\"></i> node term ({}). {} {} 30 days, {} {} \
+         29 days, {} {} leap: a leap month holds no middle term. Months, lengths and leap marks are \
+         replies of the proved calendar; the terms’ days are sums made for this page.</p>\n",
         chinese("中氣"),
-        chinese("節氣"),
+        chinese("節"),
+        chinese("大"),
+        romanised("da"),
+        chinese("小"),
+        romanised("xiao"),
         chinese("閏"),
+        romanised("run"),
     )
+}
+
+/// Returns the class of a term.
+fn class(term: u64) -> &'static str {
+    if terms::is_middle(term) {
+        "middle"
+    } else {
+        "node"
+    }
+}
+
+/// Returns a month by its number.
+fn numbered(month: &Month) -> String {
+    if month.leap {
+        format!("leap month {}", month.number)
+    } else {
+        format!("month {}", month.number)
+    }
 }
 
 /// Returns Chinese text, marked as such.

@@ -1,0 +1,49 @@
+//! The C header: a C program that includes it, linked with the archive, sees what the Rust side sees.
+
+use lengadriu_viewer::raw;
+use std::mem::{align_of, size_of};
+use std::path::Path;
+use std::process::Command;
+
+#[test]
+fn the_structs_have_the_sizes_of_the_header() {
+    assert_eq!((size_of::<raw::Day>(), align_of::<raw::Day>()), (12, 4));
+    assert_eq!((size_of::<raw::Count>(), align_of::<raw::Count>()), (8, 4));
+}
+
+#[test]
+fn a_program_in_c_gets_the_same_replies() {
+    let here = Path::new(env!("CARGO_MANIFEST_DIR"));
+    let program = Path::new(env!("CARGO_TARGET_TMPDIR")).join("caller");
+    let compiled = Command::new("cc")
+        .args(["-std=c11", "-Wall", "-Wextra", "-Werror", "-I"])
+        .arg(here.join("../crates/viewer"))
+        .arg(here.join("tests/caller.c"))
+        .arg(Path::new(env!("VIEWER_ARCHIVE_FOLDER")).join("libviewer.a"))
+        .arg("-o")
+        .arg(&program)
+        .status();
+    assert!(compiled.expect("cc starts").success());
+    let output = Command::new(&program).output().expect("the program starts");
+    assert!(output.status.success());
+    assert_eq!(String::from_utf8(output.stdout).unwrap(), expected());
+}
+
+/// Returns what the C program must write, by the Rust side.
+fn expected() -> String {
+    let mut text = String::from("month: 12, 0 4 6 7 8 9 10 11\ncount: 8, 0 4\n");
+    for d in [34, 35, 340, 365_268, 365_269, u64::MAX] {
+        let m = raw::day(d);
+        text += &format!(
+            "day {d}: {} {} {} {} {} {} {} {}\n",
+            m.first, m.year, m.place, m.day, m.length, m.number, m.leap, m.refused
+        );
+    }
+    for (n, length) in [(0, 208), (1, 216), (0, 207), (1_000, 208)] {
+        let mut row = [0xA5; 216];
+        let count = raw::year(&mut row[..length], n);
+        let bytes: String = row.iter().map(|byte| format!("{byte:02x}")).collect();
+        text += &format!("year {n}: {} {} {bytes}\n", count.refused, count.records);
+    }
+    text
+}
