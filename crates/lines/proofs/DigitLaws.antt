@@ -1,17 +1,17 @@
 -- Laws of digits: how many there are, what one is worth, and the number that a line spells.
 -- Assumes nothing.
 use mathlib.Core.Bool.{_&&_}
-use mathlib.Core.Path.{_≡_, _∙_, refl, sym, ap}
-use mathlib.Core.List.{List, [], _∷_, _++_}
+use mathlib.Core.Path.{_≡_, _∙_, refl, sym}
+use mathlib.Core.List.{List, [], _∷_}
 use Prim.Native.Nat.{ℕ, zero, suc, _+_, _-_, _*_, _/_, _%_, _^_, _≤_, _<_}
 use native.Mathlib.Nat.{pow-le-pow-right}
 use native.Mathlib.Numerals.{add-one}
 use native.Mathlib.Omega.{arith}
-use lib.Dec.{lit<}
 use borrow.Author.Tests.{ltb-true}
+use lib.Dec.{lit<}
 use lib.ListN.{length, getD, drop, length-append}
 use lib.Seq.{drop-cons}
-use Rattle.measure.specs.Choice.{if_then_else_, _≤?_, _<?_}
+use Rattle.measure.specs.Choice.{_≤?_, _<?_}
 use Rattle.measure.specs.Reply.{Reply, answer, refused, badLine}
 use Rattle.measure.proofs.Choice.{if-cases, right-passes}
 use Rattle.lines.specs.Digits.{digitByte, digitsOf, Digit, worth, noDigit, digitOf}

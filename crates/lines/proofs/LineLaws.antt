@@ -1,16 +1,16 @@
 -- Laws of lines and their replies: the first line of an input and what is handed on, what is refused, and how long a reply is.
 -- Assumes nothing.
 use mathlib.Core.Bool.{Bool, true, false}
-use mathlib.Core.Logic.{_⊎_, inl, inr, ⊎-elim}
+use mathlib.Core.Logic.{⊎-elim}
 use mathlib.Core.Path.{_≡_, _∙_, refl, sym, ap}
 use mathlib.Core.List.{List, [], _∷_, _++_, append-assoc, append-nil}
-use Prim.Native.Nat.{ℕ, suc, _+_, _-_, _*_, _≤_, _<_}
+use Prim.Native.Nat.{ℕ, zero, suc, _+_, _-_, _*_, _≤_, _<_}
 use native.Mathlib.Nat.{not-suc-le-zero, suc-add}
 use native.Mathlib.Numerals.{add-one}
 use native.Mathlib.Omega.{arith}
 use borrow.Author.Tests.{eqb-true, le-ltb}
 use borrow.Rule.Slice.PartMut.{putMid}
-use lib.ListN.{length, getD, take, drop, length-append, length-drop}
+use lib.ListN.{length, getD, take, drop, replicate, length-append, length-drop}
 use lib.Seq.{drop-cons, length-take-le}
 use Rattle.measure.specs.Choice.{if_then_else_, _<?_, _=?_}
 use Rattle.measure.specs.Reply.{Reply, answer, refused, noDay, badLine, refuseIf}
@@ -18,8 +18,8 @@ use Rattle.measure.specs.Row.{over}
 use Rattle.measure.specs.Epoch.{Epoch}
 use Rattle.measure.proofs.Choice.{passes-or-fails}
 use Rattle.months.specs.Month.{Kind, ordinary, leap, MonthOfDay, earliest, latest, dayReply}
-use Rattle.lines.specs.Digits.{Digit, worth, noDigit, digitOf, digitsOf}
-use Rattle.lines.specs.Line.{lineEnd, lineLength, restAfter, withDigit, spelled, dayAsked, lineReply, kindDigits, lineOf, lastLine, outputFrom, output, replyRoom, outputReply}
+use Rattle.lines.specs.Digits.{digitsOf}
+use Rattle.lines.specs.Line.{lineEnd, lineLength, restAfter, spelled, dayAsked, lineReply, kindDigits, lineOf, lastLine, outputFrom, output, replyRoom, outputReply}
 use Rattle.lines.proofs.RowLaws.{grow, written}
 use Rattle.lines.proofs.DigitLaws.{length-digits, spelled-only}
 
@@ -174,3 +174,12 @@ module _ (e : Epoch) where
   pub answered-whole : (input : List ℕ) (room : ℕ) → replyRoom * length input ≤ room → outputReply e input room ≡ answer (length (output e input))
   unfolding outputReply
   answered-whole input room h = simp (le-ltb room (replyRoom * length input) h)
+
+  -- and the room is needed: line ends alone fill it
+  pub filled : (n : ℕ) → length (output e (replicate n lineEnd)) ≡ replyRoom * n
+  unfolding output outputFrom lastLine dayAsked
+  filled zero = refl
+  filled (suc n) =
+      let first = lineOf (lineReply e []) in
+      let three : length first ≡ 3 = ap (λ (r : Reply MonthOfDay). length (lineOf r)) (bad-line e [] badLine refl) ∙ refusal-length badLine in
+      length-append first (output e (replicate n lineEnd)) ∙ omega (arith, filled n)

@@ -2,7 +2,7 @@
 -- Assumes nothing.
 use mathlib.Core.Bool.{_&&_}
 use mathlib.Core.List.{List, [], _∷_, _++_}
-use Prim.Native.Nat.{ℕ, zero, suc, _+_, _-_, _*_, _/_, _%_}
+use Prim.Native.Nat.{ℕ, zero, suc, _+_, _-_, _/_, _%_}
 use Rattle.measure.specs.Choice.{if_then_else_, _≤?_, _<?_}
 use Rattle.lines.specs.declared.Digit.{Digit as DigitCase}
 use Rattle.lines.specs.declared.Digit.the-variants.{Worth, Nothing}

@@ -51,11 +51,11 @@ fn one_turn(buf: &mut [u8], out: &mut [u8], kept: usize) -> Turn
             more: false,
         };
     }
-    let b = block::answer_block(buf, have, out);
-    let written = b.written;
+    let answered = block::answer_block(buf, have, out);
+    let written = answered.written;
     let ok = io::write_all(STDOUT_FILENO, &out[..written]);
     Turn {
-        kept: b.kept,
+        kept: answered.kept,
         more: ok,
     }
 }

@@ -5,15 +5,15 @@ use Prim.Native.Nat.{ℕ, _+_, _-_, _*_, _^_, _≤_, _<_}
 use native.Mathlib.Nat.{pow-suc}
 use native.Mathlib.Numerals.{add-one}
 use native.Mathlib.Omega.{arith}
-use lib.Dec.{lit<}
-use lib.ListN.{length, getD, drop, drop-of-length-le}
 use borrow.Author.Tests.{eq-eqb, ne-eqb}
+use borrow.Author.Needs.{needs}
 use denote.Ref.{now}
-use Rattle.measure.specs.Reply.{answer, refused, badLine}
+use lib.Dec.{lit<}
+use lib.ListN.{getD, drop, drop-of-length-le}
+use Rattle.measure.specs.Reply.{answer, badLine}
 use Rattle.lines.specs.Digits.{Digit, worth, noDigit, digitOf, digitSaid}
 use Rattle.lines.specs.Line.{withDigit, spelled, dayAsked}
 use Rattle.lines.proofs.DigitLaws.{small, spelled-refused, spelled-step, power}
-use borrow.Author.Needs.{needs}
 use Rattle.lines.proofs.day_asked.Statement.{statement}
 use Rattle.lines.proofs.day_asked.Tie as tie
 
@@ -23,7 +23,10 @@ Inv-loop line day₀ i₀ day i = (i ≤ 5) × (spelled (answer 0) line ≡ spel
 abbrev μ-loop : tie.MeasureT-loop
 μ-loop line day₀ i₀ day i = 5 - i
 
-read-is : (c : tie.After-known-told Inv-loop μ-loop) → digitOf (getD (now (c .before .before .before .before .before .before .before .before .before .args .line)) (c .before .before .before .before .before .before .loop .i) 0) ≡ worth (c .before .v .given .0 .0)
+-- the digit that was read
+read-is : (c : tie.After-known-told Inv-loop μ-loop)
+    → let at = c .before .before .before .before .before .before in
+    digitOf (getD (now (at .before .before .before .args .line)) (at .loop .i) 0) ≡ worth (c .before .v .given .0 .0)
 read-is c = sym (c .before .before .before .digit-of .ensures) ∙ ap digitSaid (c .before .v .given .1)
 
 returns : tie.Need-returns Inv-loop μ-loop

@@ -1,7 +1,7 @@
 -- `lines::digit_byte` meets its contract. Assumes nothing.
 use borrow.Author.Tests.{lt-ltb, le-ltb}
-use Rattle.lines.specs.Digits.{digitByte}
 use borrow.Author.Needs.{needs}
+use Rattle.lines.specs.Digits.{digitByte}
 use Rattle.lines.proofs.digit_byte.Statement.{statement}
 use Rattle.lines.proofs.digit_byte.Tie as tie
 

@@ -1,8 +1,8 @@
 -- `lines::digit_of` meets its contract. Assumes nothing.
 use native.Mathlib.Omega.{arith}
 use borrow.Author.Tests.{le-leb, lt-leb, lt-ltb, le-ltb}
-use Rattle.lines.specs.Digits.{digitOf}
 use borrow.Author.Needs.{needs}
+use Rattle.lines.specs.Digits.{digitOf}
 use Rattle.lines.proofs.digit_of.Statement.{statement}
 use Rattle.lines.proofs.digit_of.Tie as tie
 

@@ -1,8 +1,9 @@
 -- `lines::put_month` meets its contract. Assumes nothing.
-use mathlib.Core.Path.{_≡_, _∙_, refl, ap}
+use mathlib.Core.Path.{_∙_, refl, ap}
 use mathlib.Core.List.{_++_}
 use Prim.Native.Nat.{_≤_}
 use native.Mathlib.Omega.{arith}
+use borrow.Author.Needs.{needs}
 use denote.Ref.{now}
 use lib.ListN.{length}
 use Rattle.measure.specs.Reply.{answer}
@@ -13,7 +14,6 @@ use Rattle.lines.specs.Line.{kindDigits, lineOf}
 use Rattle.lines.proofs.DigitLaws.{length-digits}
 use Rattle.lines.proofs.RowLaws.{grow, length-over}
 use Rattle.lines.proofs.LineLaws.{to-kind, to-first, to-length, month-length}
-use borrow.Author.Needs.{needs}
 use Rattle.lines.proofs.put_month.Statement.{statement}
 use Rattle.lines.proofs.put_month.Tie as tie
 
@@ -83,7 +83,8 @@ returns c =
 
 same-length : tie.Need-same-length
 same-length c =
-    let a = c .before .before .before .before .before .before .before .before .before .before .before .before .before .before .before .before .before .args in
+    let year = c .before .before .before .before .before .before .before .before .before .before .before .before .before .before in
+    let a = year .before .before .before .args in
     let fits : length (lineOf (answer (monthSaid (a .m)))) ≤ length (now (a .out)) = omega (arith, month-length (monthSaid (a .m))) in
     ap length (returns c .1) ∙ length-over _ (now (a .out)) fits
 

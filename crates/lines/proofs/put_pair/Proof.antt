@@ -1,9 +1,9 @@
 -- `lines::put_pair` meets its contract. Assumes nothing.
+use borrow.Author.Needs.{needs}
+use denote.Ref.{now}
 use Rattle.lines.specs.Digits.{digitsOf}
 use Rattle.lines.proofs.DigitLaws.{length-digits}
 use Rattle.lines.proofs.RowLaws.{grow}
-use denote.Ref.{now}
-use borrow.Author.Needs.{needs}
 use Rattle.lines.proofs.put_pair.Statement.{statement}
 use Rattle.lines.proofs.put_pair.Tie as tie
 

@@ -1,11 +1,11 @@
 -- `lines::put_refusal` meets its contract. Assumes nothing.
 use mathlib.Core.Path.{refl}
 use native.Mathlib.Omega.{arith}
+use borrow.Author.Needs.{needs}
 use denote.Ref.{now}
 use Rattle.measure.proofs.Row.{put}
 use Rattle.lines.specs.Digits.{digitsOf}
 use Rattle.lines.specs.Line.{lineOf}
-use borrow.Author.Needs.{needs}
 use Rattle.lines.proofs.put_refusal.Statement.{statement}
 use Rattle.lines.proofs.put_refusal.Tie as tie
 

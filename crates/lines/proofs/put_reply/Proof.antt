@@ -1,16 +1,14 @@
 -- `lines::put_reply` meets its contract. Assumes nothing.
 use mathlib.Core.Path.{_≡_, _∙_, sym, ap}
-use Prim.Native.Nat.{_≤_}
 use native.Mathlib.Omega.{arith}
+use borrow.Author.Needs.{needs}
 use denote.Ref.{now}
 use lib.ListN.{length}
 use Rattle.measure.specs.Reply.{Reply, answer, refused, noDay, badLine, answerSaid}
-use Rattle.measure.specs.Row.{over}
 use Rattle.measure.specs.Epoch.{shoushi}
 use Rattle.months.specs.Month.{MonthOfDay, monthSaid, replySaid}
 use Rattle.lines.specs.Line.{dayAsked, lineReply, lineOf}
 use Rattle.lines.proofs.LineLaws.{bad-line, asked-reply, outside-day, month-length, refusal-length}
-use borrow.Author.Needs.{needs}
 use Rattle.lines.proofs.put_reply.Statement.{statement}
 use Rattle.lines.proofs.put_reply.Tie as tie
 

@@ -3,11 +3,11 @@ use mathlib.Core.Path.{ap}
 use Prim.Native.Nat.{_*_, _≤_, _<_}
 use native.Mathlib.Omega.{arith}
 use borrow.Author.Tests.{lt-ltb, le-ltb}
+use borrow.Author.Needs.{needs}
 use denote.Ref.{now}
 use lib.ListN.{length}
 use Rattle.measure.specs.Reply.{answer}
 use Rattle.lines.specs.Line.{replyRoom, outputReply}
-use borrow.Author.Needs.{needs}
 use Rattle.lines.proofs.replies.Statement.{statement}
 use Rattle.lines.proofs.replies.Tie as tie
 

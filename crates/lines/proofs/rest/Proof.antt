@@ -2,11 +2,11 @@
 use mathlib.Core.Path.{sym}
 use Prim.Native.Nat.{_+_, _-_, _≤_}
 use native.Mathlib.Omega.{arith}
+use borrow.Author.Needs.{needs}
 use denote.Ref.{now}
 use lib.ListN.{length, drop, length-drop, drop-of-length-le}
 use lib.Seq.{take-all}
 use Rattle.lines.specs.Line.{restAfter}
-use borrow.Author.Needs.{needs}
 use Rattle.lines.proofs.rest.Statement.{statement}
 use Rattle.lines.proofs.rest.Tie as tie
 

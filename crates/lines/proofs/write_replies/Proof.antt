@@ -9,7 +9,7 @@ use lib.ListN.{length, take, length-take, length-drop}
 use lib.Seq.{length-take-le}
 use Rattle.measure.specs.Row.{over}
 use Rattle.measure.specs.Epoch.{shoushi}
-use Rattle.lines.specs.Line.{lineLength, restAfter, output, replyRoom}
+use Rattle.lines.specs.Line.{output, replyRoom}
 use Rattle.lines.proofs.LineLaws.{length-most, rest-length, room-left, no-line, turn}
 use Rattle.lines.proofs.write_replies.Statement.{statement}
 use Rattle.lines.proofs.write_replies.Tie as tie
@@ -47,23 +47,28 @@ part-put-reply-end c = omega arith
 
 put-reply-requires : tie.Need-put-reply-requires Inv-loop μ-loop
 put-reply-requires c κs =
-    let at = c .before .before .before .before in
-    let room = room-left shoushi (now (at .loop .left)) (c .before .before .line-len .result) (c .before .before .line-len .ensures) (omega arith) in
+    let line = c .before .before in
+    let left = now (line .before .before .loop .left) in
+    let room = room-left shoushi left (line .line-len .result) (line .line-len .ensures) (omega arith) in
     simp (length-take, length-drop) (omega arith)
 
 add-used : tie.Need-add-used Inv-loop μ-loop
 add-used c =
-    let at = c .before .before .before .before .before .before .before in
-    let line = at .before .before in
-    omega (arith, room-left shoushi (now (at .loop .left)) (c .before .before .before .before .before .line-len .result) (c .before .before .before .before .before .line-len .ensures) (omega arith), c .before .before .put-reply .ensures .0)
+    let line = c .before .before .before .before .before in
+    let left = now (line .before .before .loop .left) in
+    omega (
+      arith,
+      room-left shoushi left (line .line-len .result) (line .line-len .ensures) (omega arith),
+      c .before .before .put-reply .ensures .0,
+    )
 
 rest-requires : tie.Need-rest-requires Inv-loop μ-loop
 rest-requires c κs = tt
 
 loop-less : tie.Need-loop-less Inv-loop μ-loop
 loop-less c =
-    let at = c .before .before .before .before .before .before .before .before in
-    omega (arith, ap length (c .rest .ensures), rest-length (c .before .before .before .before .before .before .line-len .result) (now (at .loop .left)))
+    let line = c .before .before .before .before .before .before in
+    omega (arith, ap length (c .rest .ensures), rest-length (line .line-len .result) (now (line .before .before .loop .left)))
 
 loop-again : tie.Need-loop-again Inv-loop μ-loop
 loop-again c =

@@ -2,9 +2,9 @@
 use Prim.Native.Nat.{_≤_, _-_}
 use native.Mathlib.Omega.{arith}
 use borrow.Rule.Slice.PartMut.{take-put}
+use borrow.Author.Needs.{needs}
 use denote.Ref.{now}
 use lib.ListN.{length}
-use borrow.Author.Needs.{needs}
 use Rattle.month_lines.proofs.fill.Statement.{statement}
 use Rattle.month_lines.proofs.fill.Tie as tie
 

@@ -2,10 +2,9 @@
 use mathlib.Core.Path.{sym}
 use Prim.Native.Nat.{_≤_}
 use native.Mathlib.Omega.{arith}
-use denote.Ref.{now}
+use borrow.Author.Needs.{needs}
 use lib.ListN.{length}
 use lib.Seq.{length-take-le}
-use borrow.Author.Needs.{needs}
 use Rattle.month_lines.proofs.one_turn.Statement.{statement}
 use Rattle.month_lines.proofs.one_turn.Tie as tie
 

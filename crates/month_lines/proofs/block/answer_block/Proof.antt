@@ -2,11 +2,11 @@
 use mathlib.Core.Path.{sym}
 use Prim.Native.Nat.{_≤_}
 use native.Mathlib.Omega.{arith}
+use borrow.Author.Needs.{needs}
 use denote.Ref.{now}
 use lib.ListN.{length}
 use lib.Seq.{length-take-le}
 use Rattle.month_lines.proofs.Kept.{answered}
-use borrow.Author.Needs.{needs}
 use Rattle.month_lines.proofs.block.answer_block.Statement.{statement}
 use Rattle.month_lines.proofs.block.answer_block.Tie as tie
 

@@ -2,15 +2,15 @@
 use mathlib.Core.Path.{_≡_, _∙_, sym, ap}
 use Prim.Native.Nat.{ℕ}
 use native.Mathlib.Omega.{arith}
+use borrow.Author.Needs.{needs}
 use denote.Ref.{now}
 use lib.ListN.{length}
-use Rattle.measure.specs.Reply.{Reply, answer, refused, answerSaid}
-use Rattle.measure.specs.Row.{over, rowAfter}
+use Rattle.measure.specs.Reply.{answer, answerSaid}
+use Rattle.measure.specs.Row.{over}
 use Rattle.measure.specs.Epoch.{shoushi}
-use Rattle.lines.specs.Line.{output, outputReply}
+use Rattle.lines.specs.Line.{output}
 use Rattle.lines.proofs.RowLaws.{written, over-least}
 use Rattle.lines.proofs.LineLaws.{answered-whole}
-use borrow.Author.Needs.{needs}
 use Rattle.month_lines.proofs.block.answer_lines.Statement.{statement}
 use Rattle.month_lines.proofs.block.answer_lines.Tie as tie
 
