@@ -1,9 +1,16 @@
-/* Writes how viewer.h lays its structs out, and some replies, for the test that compiles this. */
+/*
+ * Writes how viewer.h lays its structs out, some replies, and sums over all days and all years, for the tests that compile this. It
+ * needs no header of the C library, so that the kit's clang compiles it too.
+ */
 #include "viewer.h"
-#include <stdio.h>
-#include <string.h>
+
+int printf(const char *format, ...);
 
 #define AT(field) (int)offsetof(struct lengadriu_month, field)
+#define ROW (LENGADRIU_RECORD_BYTES * LENGADRIU_YEAR_RECORDS + 8)
+
+/* FNV-1a, one number at a time */
+static uint64_t folded(uint64_t sum, uint64_t number) { return (sum ^ number) * 0x100000001B3u; }
 
 static void show_day(uint64_t d) {
     struct lengadriu_month m = lengadriu_day(d);
@@ -11,12 +18,16 @@ static void show_day(uint64_t d) {
            m.number, m.leap, m.refused);
 }
 
+static struct lengadriu_count year(uint8_t *row, uint64_t n, size_t length) {
+    for (size_t i = 0; i < ROW; i++) row[i] = 0xA5;
+    return lengadriu_year(row, length, n);
+}
+
 static void show_year(uint64_t n, size_t length) {
-    uint8_t row[LENGADRIU_RECORD_BYTES * LENGADRIU_YEAR_RECORDS + 8];
-    memset(row, 0xA5, sizeof row);
-    struct lengadriu_count c = lengadriu_year(row, length, n);
+    uint8_t row[ROW];
+    struct lengadriu_count c = year(row, n, length);
     printf("year %llu: %u %u ", (unsigned long long)n, (unsigned)c.refused, (unsigned)c.records);
-    for (size_t i = 0; i < sizeof row; i++) printf("%02x", row[i]);
+    for (size_t i = 0; i < ROW; i++) printf("%02x", row[i]);
     printf("\n");
 }
 
@@ -35,5 +46,19 @@ int main(void) {
     show_year(1, 216);
     show_year(0, 207);
     show_year(1000, 208);
+
+    uint64_t days = 0, years = 0;
+    for (uint64_t d = 0; d <= 365300; d++) {
+        struct lengadriu_month m = lengadriu_day(d);
+        uint64_t numbers[] = {m.first, m.year, m.place, m.day, m.length, m.number, m.leap, m.refused};
+        for (int i = 0; i < 8; i++) days = folded(days, numbers[i]);
+    }
+    for (uint64_t n = 0; n <= 1001; n++) {
+        uint8_t row[ROW];
+        struct lengadriu_count c = year(row, n, ROW);
+        years = folded(folded(years, c.refused), c.records);
+        for (int i = 0; i < ROW; i++) years = folded(years, row[i]);
+    }
+    printf("sums: %016llx %016llx\n", (unsigned long long)days, (unsigned long long)years);
     return 0;
 }

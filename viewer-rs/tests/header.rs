@@ -33,11 +33,8 @@ fn a_program_in_c_gets_the_same_replies() {
 fn expected() -> String {
     let mut text = String::from("month: 12, 0 4 6 7 8 9 10 11\ncount: 8, 0 4\n");
     for d in [34, 35, 340, 365_268, 365_269, u64::MAX] {
-        let m = raw::day(d);
-        text += &format!(
-            "day {d}: {} {} {} {} {} {} {} {}\n",
-            m.first, m.year, m.place, m.day, m.length, m.number, m.leap, m.refused
-        );
+        let m = numbers(d).map(|number| number.to_string()).join(" ");
+        text += &format!("day {d}: {m}\n");
     }
     for (n, length) in [(0, 208), (1, 216), (0, 207), (1_000, 208)] {
         let mut row = [0xA5; 216];
@@ -45,5 +42,30 @@ fn expected() -> String {
         let bytes: String = row.iter().map(|byte| format!("{byte:02x}")).collect();
         text += &format!("year {n}: {} {} {bytes}\n", count.refused, count.records);
     }
-    text
+    let days = (0..=365_300).flat_map(numbers).fold(0, folded);
+    let years = (0..=1_001).fold(0, |sum, n| {
+        let mut row = [0xA5; 216];
+        let count = raw::year(&mut row, n);
+        let bytes = row.iter().map(|byte| u64::from(*byte));
+        [count.refused.into(), count.records.into()]
+            .into_iter()
+            .chain(bytes)
+            .fold(sum, folded)
+    });
+    text + &format!("sums: {days:016x} {years:016x}\n")
+}
+
+/// Returns the numbers of the reply about a day, in the order of the fields.
+fn numbers(d: u64) -> [u64; 8] {
+    let m = raw::day(d);
+    let first = m.first.into();
+    let bytes = [m.place, m.day, m.length, m.number, m.leap, m.refused].map(u64::from);
+    let [place, day, length, number, leap, refused] = bytes;
+    let year = m.year.into();
+    [first, year, place, day, length, number, leap, refused]
+}
+
+/// Returns a sum with one number more, as the C program adds it.
+fn folded(sum: u64, number: u64) -> u64 {
+    (sum ^ number).wrapping_mul(0x100_0000_01B3)
 }
