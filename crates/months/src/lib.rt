@@ -162,7 +162,7 @@ fn span_of(d: u64) -> Span
 }
 
 // The first day of month l.
-fn first_day(l: u64) -> u64
+pub fn first_day(l: u64) -> u64
     requires { ⌜ l ≤ lastLunation + 3 ⌝ }
     ensures { λ r. ⌜ r ≡ firstDay shoushi l ⌝ }
 {
@@ -180,7 +180,7 @@ fn middle_day(j: u64) -> u64
 }
 
 // The last middle term before a day.
-fn last_term(next: u64) -> u64
+pub fn last_term(next: u64) -> u64
     requires { ⌜ (middleDay shoushi 0 < next) × (next ≤ latest + 60) ⌝ }
     ensures { λ r. ⌜ LastBefore (calendar shoushi) next r ⌝ }
 {
@@ -205,7 +205,7 @@ fn head_span(n: u64) -> Span
 
 // A month by the day on which it begins and the last middle term before its end: it has that term's number, and is leap where that
 // term lies before it.
-fn kind_by(first: u64, last: u64) -> Kind
+pub fn kind_by(first: u64, last: u64) -> Kind
     requires { ⌜ last ≤ 12 * lastYear + 24 ⌝ }
     ensures { λ r. ⌜ kindSaid r ≡ kindBy (calendar shoushi) first last ⌝ }
 {

@@ -1,0 +1,4 @@
+pub mod Rows
+pub mod Structs
+pub mod Runs
+pub mod Unique
