@@ -20,7 +20,8 @@ pub fn year(year: u64, months: &[Month]) -> String {
          <header>\n<h1>{} <span>Shoushi year {year}</span></h1>\n\
          <p class=\"year\">{} {}, {western}</p>\n<p>{}</p>\n</header>\n<main>\n\
          <table class=\"months\">\n\
-         <thead><tr><th>Month</th><th>First day</th><th>Days and terms</th></tr></thead>\n\
+         <thead><tr><th scope=\"col\">Month</th><th scope=\"col\">First day · Western date*</th>\
+         <th scope=\"col\">Days and terms</th></tr></thead>\n\
          <tbody>\n{rows}</tbody>\n</table>\n\
          <h2>{} <span>The 24 terms</span></h2>\n<ol class=\"terms\">\n{listed}</ol>\n</main>\n\
          <footer>\n{}<p>{}</p>\n</footer>\n</body>\n</html>\n",
@@ -184,7 +185,7 @@ fn chinese(text: &str) -> String {
 
 /// Returns romanised text, marked as such.
 fn romanised(text: &str) -> String {
-    format!("<em lang=\"zh-Latn\">{text}</em>")
+    format!("<em lang=\"zh-Latn-pinyin\">{text}</em>")
 }
 
 /// Returns a name in Chinese and romanised.

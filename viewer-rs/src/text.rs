@@ -32,7 +32,16 @@ pub fn day(day: u64, reply: &MonthOfDay) -> String {
 /// Returns the months of a year as a table.
 pub fn year(year: u64, months: &[Month]) -> String {
     let days: u32 = months.iter().map(|month| month.length).sum();
-    let head = ["Place", "Month", "", "Days", "", "First day", "", "Western"];
+    let head = [
+        "Place",
+        "Month",
+        "",
+        "Days",
+        "",
+        "First day",
+        "",
+        "Western*",
+    ];
     let mut rows = vec![head.map(String::from)];
     rows.extend(months.iter().enumerate().map(|(place, month)| {
         [
@@ -43,7 +52,7 @@ pub fn year(year: u64, months: &[Month]) -> String {
             names::of_length(month).0.to_string(),
             month.first.to_string(),
             both(&names::of_day(month.first.into())),
-            western::date_of(month.first.into()).short(),
+            format!("{:>11}", western::date_of(month.first.into()).short()),
         ]
     }));
     format!(
@@ -73,7 +82,7 @@ pub fn western_note(months: &[Month]) -> String {
         (_, true) => "Julian up to 4 October 1582 and then Gregorian",
         _ => "Julian",
     };
-    format!("Western dates ({calendar}) are a courtesy and no part of the calendar's reply.")
+    format!("* Western dates ({calendar}) are a courtesy and no part of the calendar's reply.")
 }
 
 /// Returns a name in Chinese and romanised.

@@ -56,7 +56,7 @@ fn a_year() {
         "   10  leap 8  閏八月 run-bayue    30  大        329  癸巳 guisi    14 Sep 1281"
     );
     assert_eq!(lines.len(), 3 + 13 + 2);
-    assert!(lines[17].starts_with("Western dates (Julian) are a courtesy"));
+    assert!(lines[17].starts_with("* Western dates (Julian) are a courtesy"));
     assert!(answered(&["year", "301"]).contains("(Julian up to 4 October 1582 and then Gregorian)"));
     assert!(
         answered(&["year", "999"]).contains("Year 999 (2280), 庚申 gengshen: 12 months, 354 days")

@@ -1,17 +1,14 @@
 -- The numbers of every reply about a day fit the struct that the viewer is told; a month has days, and no refusal is numbered 0.
 -- Assumes nothing.
-use mathlib.Core.Bool.{true, false}
 use mathlib.Core.Logic.{⊎-elim}
-use mathlib.Core.Path.{_≡_, subst}
-use Prim.Native.Nat.{ℕ, suc, _+_, _-_, _≤_, _<_}
+use Prim.Native.Nat.{ℕ, suc, _-_, _≤_, _<_}
 use native.Mathlib.Omega.{arith}
 use borrow.Author.Tests.{lt-ltb, le-ltb}
-use Rattle.measure.specs.Choice.{if_then_else_, _<?_}
 use Rattle.measure.specs.Reply.{Reply, answer, refused}
 use Rattle.measure.specs.Units.{lastYear}
 use Rattle.measure.specs.Epoch.{shoushi}
 use Rattle.measure.proofs.Choice.{lt-or-ge, if-cases}
-use Rattle.month_law.specs.Calendar.{Calendar, monthOf, yearOf, head, monthsIn, leapAt, numberAt, nameOf}
+use Rattle.month_law.specs.Calendar.{Calendar, nameOf, monthOf, head, yearOf, leapAt, numberAt}
 use Rattle.month_law.specs.Edition.{calendar}
 use Rattle.month_law.proofs.Rising.{order-back}
 use Rattle.month_law.proofs.Months.{head-rises}
@@ -40,24 +37,35 @@ kind-small n p =
     if-cases SmallKind (leap (numberAt c n p)) (ordinary (numberAt c n p)) (leapAt c n p) (λ _. (number-small n p, omega arith))
     (λ _. (number-small n p, omega arith))
 
-month-fits : (d : ℕ) → earliest ≤ d → d ≤ latest → Fits (monthOfDay c d)
-unfolding monthOfDay placed
-month-fits d since until =
-    let held = month-held d since until in
-    let listed : InList c (yearOf c (monthOf c d)) (monthOf c d) = year-listed c shoushi-lawful (monthOf c d) in
-    let admitted : yearOf c (monthOf c d) < suc lastYear =
-    order-back (head c) (head-rises c shoushi-lawful) (yearOf c (monthOf c d)) (suc lastYear)
-    (omega (arith, figures, month-most d since until, listed)) in
-    let kind = kind-small (yearOf c (monthOf c d)) (monthOf c d - head c (yearOf c (monthOf c d))) in
-    record {
-      first = omega (arith, held);
-      year = omega arith;
-      place = omega (arith, listed, months-in-most c shoushi-lawful (yearOf c (monthOf c d)));
-      day = omega (arith, held, shoushi-lawful .month-most (monthOf c d));
-      length = omega (arith, held, shoushi-lawful .month-most (monthOf c d));
-      number = omega (arith, kind);
-      mark = omega (arith, kind);
-    }
+-- the month of a day of the calendar stands in the list of an admitted year
+module _ (d : ℕ) (since : earliest ≤ d) (until : d ≤ latest) where
+  abbrev l : ℕ
+  l = monthOf c d
+
+  abbrev n : ℕ
+  n = yearOf c l
+
+  listed : InList c n l
+  listed = year-listed c shoushi-lawful l
+
+  admitted : n < suc lastYear
+  admitted =
+      order-back (head c) (head-rises c shoushi-lawful) n (suc lastYear) (omega (arith, figures, month-most d since until, listed))
+
+  month-fits : Fits (monthOfDay c d)
+  unfolding monthOfDay placed
+  month-fits =
+      let held = month-held d since until in
+      let kind = kind-small n (l - head c n) in
+      record {
+        first = omega (arith, held);
+        year = omega (arith, admitted);
+        place = omega (arith, listed, months-in-most c shoushi-lawful n);
+        day = omega (arith, held, shoushi-lawful .month-most l);
+        length = omega (arith, shoushi-lawful .month-most l);
+        number = omega (arith, kind);
+        mark = omega (arith, kind);
+      }
 
 month-days : (d : ℕ) → 29 ≤ monthOfDay c d .length
 unfolding monthOfDay placed

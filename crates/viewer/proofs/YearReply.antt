@@ -8,7 +8,7 @@ use native.Mathlib.Omega.{arith}
 use lib.ListN.{length, take, drop}
 use lib.Seq.{take-at}
 use borrow.Author.Tests.{lt-ltb, le-ltb}
-use Rattle.measure.specs.Reply.{Reply, answer, refused, noYear, shortRow, answerSaid}
+use Rattle.measure.specs.Reply.{answer, refused, noYear, shortRow, answerSaid}
 use Rattle.measure.specs.Row.{over, rowAfter}
 use Rattle.measure.specs.Units.{lastYear}
 use Rattle.measure.specs.Epoch.{shoushi}

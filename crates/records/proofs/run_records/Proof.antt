@@ -175,6 +175,9 @@ module _ {M : Type 1} (𝓤 : URA M) (H : Heap 𝓤) (A : Atoms 𝓤) (W : Given
       move ! (1 ∷ 0 ∷ []) $ join ! $ nothing ! $ move ! (1 ∷ 0 ∷ []) $ frame ! $ done !
 
   module _ (r : Answer) (w : Val) (is : Is E.the-row r (w ∷ [])) where
+    reply-typed : Holds (hasTy E′.mir w) × WT w
+    reply-typed = EL.lawful E.the-type E′.the-laws 𝓤 H A W tt .typed r _ is .0
+
     abbrev to-months : MonthsIn 𝓤 H A mem run .Ghost
     to-months = ((tt, tt, tt, (r, tt), (w ∷ [], tt)), tt)
 
@@ -241,8 +244,7 @@ module _ {M : Type 1} (𝓤 : URA M) (H : Heap 𝓤) (A : Atoms 𝓤) (W : Given
         use1 W (raw (fact 𝓤 (answerSaid r ≡ runReply shoushi n k (length ys)))) (reply-of 𝓤 H A mem run n k (length ys) r) $
         heard ! (answerSaid r ≡ runReply shoushi n k (length ys)) (λ er. split ! $ drop ! $
         peeks ! E.the-row (Is E.the-row) (shows 𝓤 H A E.the-row) r (w ∷ []) (λ isr.
-        let wt = EL.lawful E.the-type E′.the-laws 𝓤 H A W tt .typed r _ isr .0 in
-        land ! (from ! (stop !)) (init ! 11 refl wt) $ drop ! $
+        land ! (from ! (stop !)) (init ! 11 refl (reply-typed r w isr)) $ drop ! $
         -- `months_in`
         nothing ! $ use1 W (raw (MonthsIn 𝓤 H A mem run .pre (to-months r w isr))) (goes-months r w isr) $
         calls-at ! fm (MonthsIn 𝓤 H A mem run) known-m (to-months r w isr) (and-then ! (load ! (from ! (stop !)) (look ! 11 refl))
@@ -290,7 +292,7 @@ module _ {M : Type 1} (𝓤 : URA M) (H : Heap 𝓤) (A : Atoms 𝓤) (W : Given
         move ! (4 ∷ []) $ split ! $ move ! (1 ∷ []) $ feqL ! (λ isu.
         -- [the token; the last list; true, thrice; true; what count and n own; _10; …]
         land ! (from ! (stop !)) (init ! 12 refl (subst (λ (c : Val). Holds (hasTy tyUnit c) × WT c) (sym (ap only isu)) (tt, tt))) $
-        assigns ! (of-opd ! (load ! (from ! (stop !)) (look ! 18 refl))) (from ! (stop !)) (init ! 28 refl wt) $
+        assigns ! (of-opd ! (load ! (from ! (stop !)) (look ! 18 refl))) (from ! (stop !)) (init ! 28 refl (reply-typed r w isr)) $
         returns ! (look ! 28 refl) $ forget ! 8 refl $ forget ! 10 refl $ forget ! 12 refl $ forget ! 14 refl $ forget ! 16 refl $
         forget ! 18 refl $ forget ! 20 refl $ forget ! 22 refl $ forget ! 24 refl $ forget ! 26 refl $ forget ! 28 refl $
         move ! (28 ∷ 29 ∷ []) $ free1 ! $ move ! (26 ∷ 27 ∷ []) $ free1 ! $ move ! (24 ∷ 25 ∷ []) $ free1 ! $ move ! (22 ∷ 23 ∷ []) $

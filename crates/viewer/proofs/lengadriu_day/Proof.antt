@@ -2,9 +2,8 @@
 use mathlib.Core.Path.{_≡_, _∙_, sym, ap, subst}
 use Prim.Native.Nat.{ℕ}
 use borrow.Author.Needs.{needs}
-use Rattle.measure.specs.Reply.{Reply}
 use Rattle.measure.specs.Epoch.{shoushi}
-use Rattle.months.specs.Month.{MonthOfDay, dayReply, replySaid}
+use Rattle.months.specs.Month.{dayReply, replySaid}
 use Rattle.months.specs.declared.Reply.{Reply as ReplyCase}
 use Rattle.viewer.specs.Told.{dayTold}
 use Rattle.viewer.proofs.Fitting.{ReplyFits, reply-fits}
