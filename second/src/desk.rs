@@ -66,7 +66,7 @@ pub fn reply(months: &Months, line: &[u8]) -> String {
 fn answer(months: &Months, line: &[u8]) -> Result<String, u32> {
     match parts(line)?.as_slice() {
         [b"constants"] => Ok(constants()),
-        [b"help"] => Ok(QUESTIONS.join(", ")),
+        [b"help"] => Ok(format!("questions: {}", QUESTIONS.join(", "))),
         [b"solstice", n] => solstice(number(n)?).map(moment),
         [b"term", n, i] => term(number(n)?, number(i)?).map(moment),
         [b"pentad", n, i, p] => pentad(number(n)?, number(i)?, number(p)?).map(moment),
