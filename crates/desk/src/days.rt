@@ -1,5 +1,5 @@
 // The questions on a day: its name, its hours, the extra and the vanishing day.
-use crate::lists;
+use crate::dates;
 use crate::reply::Reply;
 use crate::reply::malformed;
 use words::Numbers;
@@ -18,7 +18,7 @@ pub fn answer(word: &[u8], rest: &[u8]) -> Reply {
     if check::same(word, b"vanishing") {
         return vanishing(rest);
     }
-    lists::answer(word, rest)
+    dates::answer(word, rest)
 }
 
 fn name(rest: &[u8]) -> Reply {

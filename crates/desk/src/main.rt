@@ -2,10 +2,10 @@
 // standard input.
 mod ask;
 mod constants;
+mod dates;
 mod days;
 mod directs;
 mod input;
-mod lists;
 mod lunations;
 mod record;
 mod reply;

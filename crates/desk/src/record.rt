@@ -25,7 +25,7 @@ fn date(buf: &mut [u8], o: Out, m: Month) -> Out {
 
 pub fn year(buf: &mut [u8], o: Out, n: u64) -> Out {
     let mut row = [0u64; 52];
-    let a = months::list(n, &mut row);
+    let a = lists::list(n, &mut row);
     written(buf, o, a, &row)
 }
 
@@ -36,7 +36,7 @@ fn years_row() -> [u64; 52000] {
 
 pub fn years(buf: &mut [u8], o: Out, n: u64, count: u64) -> Out {
     let mut row = years_row();
-    let a = months::run(n, count, &mut row);
+    let a = lists::run(n, count, &mut row);
     written(buf, o, a, &row)
 }
 

@@ -2,11 +2,11 @@
 -- Assumes nothing.
 use mathlib.Core.Bool.{true}
 use mathlib.Core.Path.{_≡_, refl}
-use Prim.Native.Nat.{ℕ, _+_, _*_, _-_, _/_, _%_}
+use Prim.Native.Nat.{_+_, _*_}
 use Rattle.measure.specs.Reply.{answer}
 use Rattle.measure.specs.Units.{day}
 use Rattle.measure.specs.Epoch.{shoushi}
-use Rattle.measure.specs.Days.{dayOf, remainderOf, sixtyName}
+use Rattle.measure.specs.Days.{dayOf, sixtyName}
 use Rattle.measure.specs.Hours.{doubleHour, ke, hourReply}
 use Rattle.measure.specs.ExtraDays.{daysOn, none, extraDay, extraReply}
 use Rattle.inequality.specs.Signed.{aheadBy, behindBy}

@@ -27,7 +27,7 @@ use Rattle.month_law.specs.Calendar.{nameOf, monthOf, head, yearOf, held, leapA
 use Rattle.month_law.specs.Edition.{middleDay, calendar}
 use Rattle.months.specs.Head.{headReply}
 use Rattle.months.specs.Month.{ordinary, leap, kindAt, placed, monthOfDay, dayAt, dayReply, backReply}
-use Rattle.months.specs.Records.{recordAt, recordsOf, runOf, monthsInRun, listReply, runReply}
+use Rattle.lists.specs.Records.{recordAt, recordsOf, runOf, monthsInRun, runAsked, listReply, runReply}
 use Rattle.lines.specs.Digits.{digitByte, digitsOf, digitOf}
 use Rattle.lines.specs.Line.{spelled, dayAsked, lineReply, lineOf, lastLine, outputFrom, output}
 use Rattle.viewer.specs.Bytes.{lowFirst, bytesOf, roomIn}
@@ -117,7 +117,7 @@ record Others : Type 0 where
   bytes : (bytesOf (365_239 ∷ 30 ∷ []) ≡ 0xB7 ∷ 0x92 ∷ 0x05 ∷ 0x00 ∷ 0x1E ∷ 0x00 ∷ 0x00 ∷ 0x00 ∷ []) × (roomIn told ≡ 2)
 
 others : Others
-unfolding accepted asked month-line told list-0 listed over solstice solsticeReply term termReply termList termsReply pentad pentadReply earth earthReply doubleHour ke hourReply extraDay extraReply vanishingDay vanishingReply taken law exact fastAt slowAt solar solarTime solarAtReply lunarMagnitude lunar anomaly lunarAtReply wholeLaw motionAt motionInRow rowOf motion motionAtReply mean meanReply corrected correction correctionOf moved trueMoon firstDay solarReply lunarReply motionReply correctionReply trueReply seek count nameOf monthOf head yearOf held leapAt numberAt middleDay headReply kindAt placed monthOfDay dayAt dayReply backReply recordAt recordsOf runOf monthsInRun listReply runReply digitByte digitsOf digitOf spelled dayAsked lineReply lineOf lastLine outputFrom output lowFirst bytesOf roomIn
+unfolding accepted asked month-line told list-0 listed over solstice solsticeReply term termReply termList termsReply pentad pentadReply earth earthReply doubleHour ke hourReply extraDay extraReply vanishingDay vanishingReply taken law exact fastAt slowAt solar solarTime solarAtReply lunarMagnitude lunar anomaly lunarAtReply wholeLaw motionAt motionInRow rowOf motion motionAtReply mean meanReply corrected correction correctionOf moved trueMoon firstDay solarReply lunarReply motionReply correctionReply trueReply seek count nameOf monthOf head yearOf held leapAt numberAt middleDay headReply kindAt placed monthOfDay dayAt dayReply backReply recordAt recordsOf runOf monthsInRun listReply runAsked runReply digitByte digitsOf digitOf spelled dayAsked lineReply lineOf lastLine outputFrom output lowFirst bytesOf roomIn
 others =
     record {
       names = (refl, refl, refl);

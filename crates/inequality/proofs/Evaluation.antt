@@ -6,7 +6,7 @@ use native.Mathlib.Nat.{sub-add-cancel}
 use native.Mathlib.Omega.{arith}
 use Rattle.measure.specs.Units.{day}
 use Rattle.measure.proofs.Product.{product}
-use Rattle.inequality.specs.Law.{Law, fine, taken, law, exact}
+use Rattle.inequality.specs.Law.{Law, fine, taken, exact}
 use Rattle.inequality.specs.Evaluation.{reach, Evaluated}
 
 -- what the third coefficient brings

@@ -1,6 +1,6 @@
 -- A signed number as what is ahead less what is behind, two naturals: no rule below needs a case for the sign.
 -- Assumes nothing.
-use Prim.Native.Nat.{ℕ, _+_, _-_}
+use Prim.Native.Nat.{ℕ, _+_}
 use lib.IntN.{ℤ, subℕ}
 use Rattle.measure.specs.Reply.{Reply, answer, refused}
 use Rattle.inequality.specs.declared.SignedAnswer.{SignedAnswer}

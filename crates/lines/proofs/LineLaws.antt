@@ -17,10 +17,11 @@ use Rattle.measure.specs.Reply.{Reply, answer, refused, noDay, badLine, refuseI
 use Rattle.measure.specs.Row.{over}
 use Rattle.measure.specs.Epoch.{Epoch}
 use Rattle.measure.proofs.Choice.{passes-or-fails}
+use Rattle.measure.proofs.Row.{grow}
 use Rattle.months.specs.Month.{Kind, ordinary, leap, MonthOfDay, earliest, latest, dayReply}
 use Rattle.lines.specs.Digits.{digitsOf}
 use Rattle.lines.specs.Line.{lineEnd, lineLength, restAfter, spelled, dayAsked, lineReply, kindDigits, lineOf, lastLine, outputFrom, output, replyRoom, outputReply}
-use Rattle.lines.proofs.RowLaws.{grow, written}
+use Rattle.lines.proofs.RowLaws.{written}
 use Rattle.lines.proofs.DigitLaws.{length-digits, spelled-only}
 
 -- one byte more of a line
@@ -163,7 +164,7 @@ module _ (e : Epoch) where
       let q = lineOf (lineReply e (take n left)) in
       let after = putMid used (length now - used) now part in
       let lp : length p ≡ used = length-take-le used now fits in
-      let w : after ≡ over (p ++ q) row = grow p q row now used part lp whole ep in
+      let w : after ≡ over (p ++ q) row = grow p q row now part used whole lp ep in
       let lq : length (p ++ q) ≡ used + r = omega (arith, length-append p q) in
       let f : take (used + r) after ≡ p ++ q = written (p ++ q) row after (used + r) lq w in (
         done ∙ ap (λ (l : List ℕ). p ++ l) (rw (ex, en) (first-line left some)) ∙ sym (append-assoc p q (output e next)) ∙ ap (λ (l : List ℕ). l ++ output e next) (sym f),

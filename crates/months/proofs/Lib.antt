@@ -3,8 +3,4 @@ pub mod Reach
 pub mod ByTerm
 pub mod Back
 pub mod RoundTrip
-pub mod Listing
-pub mod RecordLaws
-pub mod YearList
-pub mod RunList
 pub mod Unique

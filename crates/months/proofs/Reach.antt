@@ -23,11 +23,7 @@ use Rattle.months.proofs.Spans.{next-is}
 abbrev c : Calendar
 c = calendar shoushi
 
--- no month begins before the first
-pub first-least : (l : ℕ) → earliest ≤ c .first l
-first-least l = omega (arith, figures, rises-weakly (c .first) (first-rises c shoushi-lawful) 0 l (omega arith))
-
--- nor does one that is counted begin after the day that follows the latest
+-- no month that is counted begins after the day that follows the latest
 pub first-most : (l : ℕ) → l ≤ suc lastLunation → c .first l ≤ suc latest
 first-most l h = omega (arith, figures, rises-weakly (c .first) (first-rises c shoushi-lawful) l (suc lastLunation) h)
 

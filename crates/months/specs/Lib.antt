@@ -1,4 +1,3 @@
 pub mod Head
 pub mod Month
 pub mod Span
-pub mod Records

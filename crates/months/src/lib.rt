@@ -1,6 +1,4 @@
-// The head of a year, a day's month and the way back, a year's list and a run of years.
-mod records;
-
+// The head of a year, a day's month and the way back.
 use measure::Answer;
 use measure::DAY;
 use measure::LAST_YEAR;
@@ -11,24 +9,17 @@ use measure::OUTSIDE;
 use measure::SOLSTICE_EPOCH;
 use measure::TERM_STEP;
 use moons::MEAN_START;
-pub use records::RECORD_WIDTH;
-pub use records::YEAR_ROOM;
-pub use records::leap_mark;
-pub use records::list;
-pub use records::number_in;
-pub use records::run;
 ghost use mathlib.Core.Path.{_≡_};
 ghost use Prim.Native.Nat.{suc, _+_, _-_, _*_, _/_, _≤_, _<_};
-ghost use Rattle.measure.specs.Choice.{if_then_else_, _<?_};
 ghost use Rattle.measure.specs.Reply.{answerSaid};
 ghost use Rattle.measure.specs.Units.{lastYear};
 ghost use Rattle.measure.specs.Epoch.{shoushi};
 ghost use Rattle.moons.specs.Lunation.{lastLunation};
 ghost use Rattle.moons.specs.TrueMoon.{firstDay};
-ghost use Rattle.month_law.specs.Calendar.{lengthOf, monthOf, monthsIn, head};
+ghost use Rattle.month_law.specs.Calendar.{monthOf, head};
 ghost use Rattle.month_law.specs.Edition.{middleDay, calendar};
 ghost use Rattle.months.specs.Head.{headReply};
-ghost use Rattle.months.specs.Month.{earliest, latest, monthOfDay, dayReply, backReply, hasDate, kindSaid, monthSaid, replySaid};
+ghost use Rattle.months.specs.Month.{earliest, latest, monthOfDay, dayReply, backReply, hasDate, kindSaid, numberIn, markIn, monthSaid, replySaid};
 ghost use Rattle.months.specs.Span.{spanOf, kindBy, LastBefore};
 
 // A month is ordinary or leap, with its number inside.
@@ -172,7 +163,7 @@ pub fn first_day(l: u64) -> u64
 const MIDDLE_STEP: u64 = 2 * TERM_STEP;
 
 // The day of middle term j, counted on over the years.
-fn middle_day(j: u64) -> u64
+pub fn middle_day(j: u64) -> u64
     requires { ⌜ j ≤ 12 * lastYear + 24 ⌝ }
     ensures { λ r. ⌜ r ≡ middleDay shoushi j ⌝ }
 {
@@ -196,7 +187,7 @@ fn head_of(n: u64) -> u64
 }
 
 // The head of year n with its days.
-fn head_span(n: u64) -> Span
+pub fn head_span(n: u64) -> Span
     requires { ⌜ n ≤ suc lastYear ⌝ }
     ensures { λ r. ⌜ r ≡ spanOf (calendar shoushi) (head (calendar shoushi) n) ⌝ }
 {
@@ -234,5 +225,25 @@ fn month_in(span: Span, d: u64) -> Month
         day: d - first + 1,
         first,
         length: next - first,
+    }
+}
+
+// The number of a month, ordinary or leap.
+pub fn number_in(kind: Kind) -> u64
+    ensures { λ r. ⌜ r ≡ numberIn (kindSaid kind) ⌝ }
+{
+    match kind {
+        Kind::Ordinary(number) => number,
+        Kind::Leap(repeated) => repeated,
+    }
+}
+
+// A month's leap mark: 1 where it is leap, else 0.
+pub fn leap_mark(kind: Kind) -> u64
+    ensures { λ r. ⌜ r ≡ markIn (kindSaid kind) ⌝ }
+{
+    match kind {
+        Kind::Ordinary(_) => 0,
+        Kind::Leap(_) => 1,
     }
 }

@@ -1,9 +1,5 @@
 // A year's list and a run of years, as month records in a lent row of structs.
 use measure::Answer;
-use measure::LAST_YEAR;
-use measure::NO_YEAR;
-use measure::SHORT_ROW;
-use months::YEAR_ROOM;
 use moons::LAST_LUNATION;
 ghost use mathlib.Core.Path.{_≡_};
 ghost use Prim.Native.Nat.{suc, _+_, _≤_, _<_};
@@ -14,7 +10,7 @@ ghost use Rattle.measure.specs.Epoch.{shoushi};
 ghost use Rattle.moons.specs.Lunation.{lastLunation};
 ghost use Rattle.month_law.specs.Calendar.{head, monthsIn};
 ghost use Rattle.month_law.specs.Edition.{calendar};
-ghost use Rattle.months.specs.Records.{recordOf, recordsOf, runOf, listReply, runReply};
+ghost use Rattle.lists.specs.Records.{recordOf, recordsOf, runOf, listReply, runReply};
 ghost use Rattle.records.specs.MonthRecords.{recordIn, inRecords, monthsFrom, writtenIn, over, rowAfter};
 
 pub struct MonthRecord {
@@ -81,19 +77,10 @@ fn record_of(l: u64, i: usize) -> MonthRecord
 fn run_reply(n: u64, count: u64, room: usize) -> Answer
     ensures { λ r. ⌜ answerSaid r ≡ runReply shoushi n count room ⌝ }
 {
-    if count == 0 {
-        return Answer::Refused(NO_YEAR);
+    match lists::run_asked(n, count, room as u64) {
+        Answer::Refused(k) => Answer::Refused(k),
+        Answer::Number(_) => Answer::Number(head_of(n + count) - head_of(n)),
     }
-    if LAST_YEAR < n {
-        return Answer::Refused(NO_YEAR);
-    }
-    if LAST_YEAR + 1 - n < count {
-        return Answer::Refused(NO_YEAR);
-    }
-    if (room as u64) < YEAR_ROOM * count {
-        return Answer::Refused(SHORT_ROW);
-    }
-    Answer::Number(head_of(n + count) - head_of(n))
 }
 
 // How many records a reply tells of: none where it refuses.

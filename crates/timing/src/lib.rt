@@ -8,8 +8,7 @@ ghost use Rattle.measure.specs.Reply.{answerSaid};
 ghost use Rattle.measure.specs.Row.{rowAfter};
 ghost use Rattle.moons.specs.TrueMoon.{trueReply};
 ghost use Rattle.month_law.specs.Edition.{calendar};
-ghost use Rattle.months.specs.Month.{backReply};
-ghost use Rattle.months.specs.Records.{recordWidth, runOf, runReply};
+ghost use Rattle.lists.specs.Records.{recordWidth, runOf, runReply};
 ghost use Rattle.timing.specs.Timed.{timed};
 
 // The true moon's running time.
@@ -26,7 +25,7 @@ pub extern "C" fn timing_run(row: &mut [u64], n: u64, count: u64) -> u64
     ensures { λ r. ⌜ r ≡ timed (runReply shoushi n count (length (now (row .entry)) / recordWidth)) ⌝ }
     ensures { λ _. ⌜ now (row .exit) ≡ rowAfter (runReply shoushi n count (length (now (row .entry)) / recordWidth)) (runOf (calendar shoushi) n count) (now (row .entry)) ⌝ }
 {
-    number(months::run(n, count, row))
+    number(lists::run(n, count, row))
 }
 
 // The number of an answer, or of its refusal.

@@ -19,7 +19,7 @@ use Rattle.month_law.proofs.Rising.{rises-weakly}
 use Rattle.month_law.proofs.Months.{first-rises}
 use Rattle.month_law.proofs.Edition.{figures, shoushi-lawful}
 use Rattle.months.specs.Month.{Kind, ordinary, leap, MonthOfDay, numberIn, markIn, dayReply}
-use Rattle.months.specs.Records.{yearRoom, recordAt, recordsOf, listReply}
+use Rattle.lists.specs.Records.{yearRoom, recordAt, recordsOf, listReply}
 use Rattle.months.proofs.Reach.{list-most}
 use Rattle.viewer.specs.Bytes.{lowFirst, bytesOf}
 use Rattle.viewer.specs.Told.{dayTold, countTold}

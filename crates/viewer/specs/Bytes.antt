@@ -3,7 +3,7 @@
 use mathlib.Core.List.{List, [], _∷_, _++_}
 use Prim.Native.Nat.{ℕ, _*_, _/_, _%_}
 use lib.ListN.{length}
-use Rattle.months.specs.Records.{recordWidth}
+use Rattle.lists.specs.Records.{recordWidth}
 
 abbrev pub numberBytes : ℕ
 numberBytes = 4

@@ -1,10 +1,10 @@
 // What the viewer calls: the month of a day, and the list of a year as bytes.
+use lists::RECORD_WIDTH;
+use lists::YEAR_ROOM;
 use measure::Answer;
 use measure::SHORT_ROW;
 use months::Month;
-use months::RECORD_WIDTH;
 use months::Reply;
-use months::YEAR_ROOM;
 ghost use mathlib.Core.Path.{_≡_};
 ghost use Prim.Native.Nat.{_*_, _≤_, _<_};
 ghost use lib.ListN.{length, take};
@@ -14,7 +14,7 @@ ghost use Rattle.measure.specs.Row.{over, rowAfter};
 ghost use Rattle.month_law.specs.Calendar.{monthsIn};
 ghost use Rattle.month_law.specs.Edition.{calendar};
 ghost use Rattle.months.specs.Month.{dayReply, monthSaid};
-ghost use Rattle.months.specs.Records.{recordsOf, listReply};
+ghost use Rattle.lists.specs.Records.{recordsOf, listReply};
 ghost use Rattle.viewer.specs.Bytes.{numberBytes, lowFirst, bytesOf, roomIn};
 ghost use Rattle.viewer.specs.Told.{Fits, dayTold, countTold};
 
@@ -57,7 +57,7 @@ pub extern "C" fn lengadriu_year(row: &mut [u8], n: u64) -> Count
     ensures { λ _. ⌜ now (row .exit) ≡ rowAfter (listReply shoushi n (roomIn (now (row .entry)))) (bytesOf (recordsOf (calendar shoushi) n (monthsIn (calendar shoushi) n))) (now (row .entry)) ⌝ }
 {
     let mut numbers = [0u64; YEAR_NUMBERS];
-    match months::list(n, &mut numbers) {
+    match lists::list(n, &mut numbers) {
         Answer::Number(records) => {
             if row.len() / RECORD_BYTES < YEAR_ROOM as usize {
                 return count_refused(SHORT_ROW);

@@ -7,12 +7,12 @@ use borrow.Author.Needs.{needs}
 use denote.Ref.{now}
 use lib.ListN.{length}
 use Rattle.measure.specs.Reply.{answer}
-use Rattle.measure.proofs.Row.{put}
+use Rattle.measure.proofs.Row.{put, grow}
 use Rattle.months.specs.Month.{monthSaid}
 use Rattle.lines.specs.Digits.{digitsOf}
 use Rattle.lines.specs.Line.{kindDigits, lineOf}
 use Rattle.lines.proofs.DigitLaws.{length-digits}
-use Rattle.lines.proofs.RowLaws.{grow, length-over}
+use Rattle.lines.proofs.RowLaws.{length-over}
 use Rattle.lines.proofs.LineLaws.{to-kind, to-first, to-length, month-length}
 use Rattle.lines.proofs.put_month.Statement.{statement}
 use Rattle.lines.proofs.put_month.Tie as tie
@@ -73,11 +73,11 @@ returns c =
     let l = digitsOf 2 (m .length) in (
       refl,
       put (y ++ k ++ f ++ l) row _ 10 12
-          (grow (y ++ k ++ f) l row _ 10 _ (to-first m)
-          (grow (y ++ k) f row _ 5 _ (to-kind m)
-          (grow y k row _ 3 _ (length-digits 3 (m .year)) (year .put-digits .ensures) (kind .put-kind .ensures))
-          (c .before .before .before .before .before .before .put-digits2 .ensures))
-          (c .before .before .put-digits3 .ensures))
+          (grow (y ++ k ++ f) l row _ _ 10
+          (grow (y ++ k) f row _ _ 5
+          (grow y k row _ _ 3 (year .put-digits .ensures) (length-digits 3 (m .year)) (kind .put-kind .ensures))
+          (to-kind m) (c .before .before .before .before .before .before .put-digits2 .ensures))
+          (to-first m) (c .before .before .put-digits3 .ensures))
           (to-length m) (omega arith),
     )
 

@@ -1,9 +1,9 @@
 -- `lines::put_pair` meets its contract. Assumes nothing.
 use borrow.Author.Needs.{needs}
 use denote.Ref.{now}
+use Rattle.measure.proofs.Row.{grow}
 use Rattle.lines.specs.Digits.{digitsOf}
 use Rattle.lines.proofs.DigitLaws.{length-digits}
-use Rattle.lines.proofs.RowLaws.{grow}
 use Rattle.lines.proofs.put_pair.Statement.{statement}
 use Rattle.lines.proofs.put_pair.Tie as tie
 
@@ -29,7 +29,7 @@ returns : tie.Need-returns
 returns c =
     let one = c .before .before .before .before .before .before in
     let a = one .before .before .before .args in
-    grow (digitsOf 1 (a .a)) (digitsOf 1 (a .b)) (now (a .out)) _ 1 _ (length-digits 1 (a .a)) (one .put-digits .ensures)
+    grow (digitsOf 1 (a .a)) (digitsOf 1 (a .b)) (now (a .out)) _ _ 1 (one .put-digits .ensures) (length-digits 1 (a .a))
     (c .before .before .put-digits2 .ensures)
 
 pub put-pair-spec : {M : Type 1} → statement M

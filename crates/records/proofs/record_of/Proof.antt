@@ -13,9 +13,9 @@ use Rattle.month_law.proofs.Terms.{one-come}
 use Rattle.month_law.proofs.Edition.{shoushi-lawful}
 use Rattle.months.specs.Month.{Kind, latest, numberIn, markIn, kindSaid}
 use Rattle.months.specs.Span.{LastBefore, kindBy}
-use Rattle.months.specs.Records.{recordOf}
+use Rattle.lists.specs.Records.{recordOf}
 use Rattle.months.proofs.Reach.{first-most, term-small}
-use Rattle.months.proofs.RecordLaws.{record-told}
+use Rattle.lists.proofs.RecordLaws.{record-told}
 use Rattle.records.specs.MonthRecords.{recordBy, recordIn}
 use Rattle.records.proofs.record_of.Statement.{statement}
 use Rattle.records.proofs.record_of.Tie as tie

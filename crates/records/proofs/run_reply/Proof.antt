@@ -1,15 +1,15 @@
 -- `records::run_reply` meets its contract: a run has as many months as lie between its head and the one after it. Assumes nothing.
-use mathlib.Core.Path.{_≡_, ap}
+use mathlib.Core.Path.{_≡_, _∙_, sym, ap}
 use Prim.Native.Nat.{_+_, _-_}
 use native.Mathlib.Omega.{arith}
 use borrow.Author.Needs.{needs}
-use borrow.Author.Tests.{eq-eqb, ne-eqb, lt-ltb, le-ltb}
 use Rattle.measure.specs.Reply.{answer}
 use Rattle.measure.specs.Epoch.{shoushi}
 use Rattle.month_law.specs.Calendar.{Calendar, head}
 use Rattle.month_law.specs.Edition.{calendar}
 use Rattle.month_law.proofs.Edition.{shoushi-lawful}
-use Rattle.months.specs.Records.{runReply, monthsInRun}
+use Rattle.lists.specs.Records.{runReply, monthsInRun}
+use Rattle.lists.proofs.Asked.{Admitted, said-as, run-refused, run-admitted}
 use Rattle.records.proofs.Structs.{run-ends}
 use Rattle.records.proofs.run_reply.Statement.{statement}
 use Rattle.records.proofs.run_reply.Tie as tie
@@ -17,41 +17,36 @@ use Rattle.records.proofs.run_reply.Tie as tie
 abbrev cal : Calendar
 cal = calendar shoushi
 
-returns : tie.Need-returns
-unfolding runReply
-returns c = simp (eq-eqb _ _ (c .if1 .taken))
+-- the run has its years
+admitted : (c : tie.After-enum-told) → let a = c .before .before .before .args in Admitted (a .n) (a .count) (a .room)
+admitted c =
+    let at = c .before .before in
+    let a = at .before .args in
+    run-admitted (a .n) (a .count) (a .room) (a .count) _
+    (said-as (at .run-asked .result) _ (at .run-asked .ensures) (c .enum-told .given .1))
 
-returns-2 : tie.Need-returns-2
-unfolding runReply
-returns-2 c = simp (ne-eqb _ _ (c .before .if1 .left), lt-ltb _ _ (c .if2 .taken))
+-- and their months lie between the two heads
+module _ (c : tie.After-head-of2) where
+  counted : let a = c .before .before .before .before .before .args in
+      c .head-of2 .result + monthsInRun cal (a .n) (a .count) ≡ c .before .head-of .result
+  counted =
+      let a = c .before .before .before .before .before .args in
+      let ok = admitted (c .before .before) in
+      let end : c .before .head-of .result ≡ head cal (a .n + a .count) = c .before .head-of .ensures (ok .within) in
+      let start : c .head-of2 .result ≡ head cal (a .n) = c .head-of2 .ensures (omega (arith, ok .within)) in
+      rw (start, end) (run-ends cal shoushi-lawful (a .n) (a .count))
 
-add-if3 : tie.Need-add-if3
-add-if3 c = search needs
+run-asked-requires : tie.Need-run-asked-requires
+run-asked-requires c κs = search needs
 
-sub-if3 : tie.Need-sub-if3
-sub-if3 c = search needs
+enum-known-k : tie.Need-enum-known-k
+enum-known-k c = search needs
 
-returns-3 : tie.Need-returns-3
-unfolding runReply
-returns-3 c =
-    simp (ne-eqb _ _ (c .before .before .if1 .left), le-ltb _ _ (c .before .if2 .left), lt-ltb _ _ (c .if3 .taken))
-
-mul-if4 : tie.Need-mul-if4
-mul-if4 c = search needs
-
-returns-4 : tie.Need-returns-4
-unfolding runReply
-returns-4 c =
-    let at = c .before in
-    simp (
-      ne-eqb _ _ (at .before .before .if1 .left),
-      le-ltb _ _ (at .before .if2 .left),
-      le-ltb _ _ (at .if3 .left),
-      lt-ltb _ _ (c .if4 .taken),
-    )
+enum-told : tie.Need-enum-told
+enum-told c = search needs
 
 add-head-of : tie.Need-add-head-of
-add-head-of c = search needs
+add-head-of c = omega (arith, admitted c .within)
 
 head-of-requires : tie.Need-head-of-requires
 head-of-requires c κs = search needs
@@ -59,43 +54,33 @@ head-of-requires c κs = search needs
 head-of-requires-2 : tie.Need-head-of-requires-2
 head-of-requires-2 c κs = search needs
 
-sub-t8 : tie.Need-sub-t8
-sub-t8 c =
-    let a = c .before .before .before .before .before .before .args in
-    let end : c .before .head-of .result ≡ head cal (a .n + a .count) = c .before .head-of .ensures (omega arith) in
-    let start : c .head-of2 .result ≡ head cal (a .n) = c .head-of2 .ensures (omega arith) in
-    omega (arith, run-ends cal shoushi-lawful (a .n) (a .count))
+sub-t11 : tie.Need-sub-t11
+sub-t11 c = omega (arith, counted c)
 
-returns-5 : tie.Need-returns-5
+returns : tie.Need-returns
+returns c =
+    let at = c .before .before .before in
+    let a = at .before .args in
+    run-refused (a .n) (a .count) (a .room) shoushi _ (a .count)
+    (said-as (at .run-asked .result) _ (at .run-asked .ensures) (c .before .k .given .1))
+
+returns-2 : tie.Need-returns-2
 unfolding runReply
-returns-5 c =
-    let last = c .before .before in
-    let at = last .before in
-    let a = at .before .before .before .args in
-    let end : c .before .head-of .result ≡ head cal (a .n + a .count) = c .before .head-of .ensures (omega arith) in
-    let start : c .head-of2 .result ≡ head cal (a .n) = c .head-of2 .ensures (omega arith) in
-    let months : c .before .head-of .result - c .head-of2 .result ≡ monthsInRun cal (a .n) (a .count) =
-    omega (arith, run-ends cal shoushi-lawful (a .n) (a .count)) in
-    simp (
-      ne-eqb _ _ (at .before .before .if1 .left),
-      le-ltb _ _ (at .before .if2 .left),
-      le-ltb _ _ (at .if3 .left),
-      le-ltb _ _ (last .if4 .left),
-    ) (ap answer months)
+returns-2 c =
+    let a = c .before .before .before .before .before .args in
+    let months : c .before .head-of .result - c .head-of2 .result ≡ monthsInRun cal (a .n) (a .count) = omega (arith, counted c) in
+    ap answer months ∙ sym (admitted (c .before .before) .answered (answer (monthsInRun cal (a .n) (a .count))))
 
 pub run-reply-spec : {M : Type 1} → statement M
 run-reply-spec =
     tie.close
     (tie.spec
-    returns
-    returns-2
-    add-if3
-    sub-if3
-    returns-3
-    mul-if4
-    returns-4
+    run-asked-requires
+    enum-known-k
+    enum-told
     add-head-of
     head-of-requires
     head-of-requires-2
-    sub-t8
-    returns-5)
+    sub-t11
+    returns
+    returns-2)

@@ -1,4 +1,4 @@
--- `months::records::span_after` meets its contract. Assumes nothing.
+-- `lists::span_after` meets its contract. Assumes nothing.
 use mathlib.Core.Path.{_≡_, _∙_, ap}
 use Prim.Native.Nat.{suc, _+_}
 use native.Mathlib.Numerals.{add-one}
@@ -7,9 +7,9 @@ use borrow.Author.Needs.{needs}
 use Rattle.measure.specs.Epoch.{shoushi}
 use Rattle.moons.specs.TrueMoon.{firstDay}
 use Rattle.month_law.specs.Edition.{calendar}
 use Rattle.months.proofs.Spans.{next-is}
-use Rattle.months.proofs.records.span_after.Statement.{statement}
-use Rattle.months.proofs.records.span_after.Tie as tie
+use Rattle.lists.proofs.span_after.Statement.{statement}
+use Rattle.lists.proofs.span_after.Tie as tie
 
 add-t2 : tie.Need-add-t2
 add-t2 c = search needs

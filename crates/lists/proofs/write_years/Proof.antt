@@ -1,4 +1,4 @@
--- `months::records::write_years` meets its contract: after k turns the lists of k years are written. Assumes nothing.
+-- `lists::write_years` meets its contract: after k turns the lists of k years are written. Assumes nothing.
 use mathlib.Core.Path.{_≡_, _∙_, ap}
 use Prim.Native.Nat.{ℕ, _+_, _-_, _*_, _≤_}
 use native.Mathlib.Omega.{arith}
@@ -11,11 +11,11 @@ use Rattle.month_law.specs.Calendar.{Calendar}
 use Rattle.month_law.specs.Edition.{calendar}
 use Rattle.month_law.proofs.Edition.{shoushi-lawful}
 use Rattle.month_law.proofs.Lists.{months-in-most}
-use Rattle.months.specs.Records.{recordWidth, runOf, monthsInRun}
+use Rattle.lists.specs.Records.{recordWidth, runOf, monthsInRun}
 use Rattle.months.proofs.Spans.{months-between, head-later}
-use Rattle.months.proofs.RunList.{Running, run-begins, run-room, run-goes-on}
-use Rattle.months.proofs.records.write_years.Statement.{statement}
-use Rattle.months.proofs.records.write_years.Tie as tie
+use Rattle.lists.proofs.RunList.{Running, run-begins, run-room, run-goes-on}
+use Rattle.lists.proofs.write_years.Statement.{statement}
+use Rattle.lists.proofs.write_years.Tie as tie
 
 abbrev cal : Calendar
 cal = calendar shoushi

@@ -11,11 +11,11 @@ use Rattle.measure.proofs.Row.{restFrom, withRest, grow}
 use Rattle.month_law.specs.Calendar.{Calendar, head, monthsIn}
 use Rattle.month_law.specs.Lawful.{Lawful}
 use Rattle.month_law.proofs.Lists.{months-in-most}
 use Rattle.months.specs.Span.{spanOf}
-use Rattle.months.specs.Records.{recordWidth, yearRoom, recordsOf, runOf, monthsInRun}
+use Rattle.lists.specs.Records.{recordWidth, yearRoom, recordsOf, runOf, monthsInRun}
 use Rattle.months.specs.declared.Span.{Span}
 use Rattle.months.proofs.Spans.{months-between}
-use Rattle.months.proofs.RecordLaws.{run-more, months-more, length-run, months-run-most}
+use Rattle.lists.proofs.RecordLaws.{run-more, months-more, length-run, months-run-most}
 
 -- the lists of k years from n on are written, in so many records, and the rest of the row is as it was; the next list begins with the span
 pub record Running (c : Calendar) (n k : ℕ) (row₀ row : List ℕ) (start : Span) (months : ℕ) : Type 0 where

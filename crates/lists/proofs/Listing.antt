@@ -2,8 +2,8 @@
 -- Assumes nothing.
 use mathlib.Core.Bool.{Bool, true, false}
 use mathlib.Core.List.{List, [], _∷_}
-use mathlib.Core.Path.{_≡_, refl, ap, sym}
-use Prim.Native.Nat.{ℕ, suc, _+_, _-_, _%_, _≤_, _<_}
+use mathlib.Core.Path.{_≡_, refl, sym}
+use Prim.Native.Nat.{ℕ, _+_, _-_, _%_, _≤_, _<_}
 use native.Mathlib.Omega.{arith}
 use Rattle.measure.specs.Choice.{if_then_else_}
 use Rattle.measure.specs.Units.{lastYear}
@@ -12,14 +12,13 @@ use Rattle.measure.specs.Days.{sixtyName}
 use Rattle.month_law.specs.Count.{oneIf}
 use Rattle.month_law.specs.Calendar.{Calendar, lengthOf, monthOf, head, monthsIn, yearOf, leapAt, numberAt, leapMark}
 use Rattle.month_law.specs.Edition.{calendar}
-use Rattle.month_law.proofs.Days.{dateOf}
 use Rattle.month_law.proofs.Lists.{listed-place}
 use Rattle.month_law.proofs.Runs.{year-listed}
 use Rattle.month_law.proofs.Edition.{shoushi-lawful}
-use Rattle.months.specs.Month.{Kind, ordinary, leap, MonthOfDay, earliest, latest, kindAt, placed, monthOfDay, numberIn, markIn}
-use Rattle.months.specs.Records.{recordAt}
+use Rattle.months.specs.Month.{ordinary, leap, MonthOfDay, earliest, latest, kindAt, placed, monthOfDay, numberIn, markIn}
+use Rattle.lists.specs.Records.{recordAt}
 use Rattle.months.proofs.Reach.{month-held}
 use Rattle.months.proofs.RoundTrip.{day-dated, day-admitted}
 
 abbrev c : Calendar
 c = calendar shoushi

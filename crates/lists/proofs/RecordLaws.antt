@@ -13,10 +13,10 @@ use Rattle.month_law.specs.Calendar.{Calendar, head, monthsIn, yearOf, leapAt, 
 use Rattle.month_law.specs.Lawful.{Lawful}
 use Rattle.month_law.proofs.Lists.{place-listed, listed-place, months-in-most}
 use Rattle.month_law.proofs.Runs.{year-of}
 use Rattle.months.specs.Month.{Kind, ordinary, leap, kindAt, numberIn, markIn}
 use Rattle.months.specs.Span.{LastBefore, kindBy}
-use Rattle.months.specs.Records.{recordWidth, yearRoom, recordAt, recordOf, recordsOf, runOf, monthsInRun}
+use Rattle.lists.specs.Records.{recordWidth, yearRoom, recordAt, recordOf, recordsOf, runOf, monthsInRun}
 use Rattle.months.proofs.ByTerm.{year-told, year-is, kind-told}
 
 -- the record of a month by its two days and its kind
 abbrev pub recordBy : ℕ → ℕ → Kind → List ℕ

@@ -45,10 +45,14 @@ unfoldable pub listReply : Epoch → ℕ → ℕ → Reply ℕ
 listReply e n room =
     refuseIf (lastYear <? n) noYear (refuseIf (room <? yearRoom) shortRow (answer (monthsIn (calendar e) n)))
 
-unfoldable pub runReply : Epoch → ℕ → ℕ → ℕ → Reply ℕ
-runReply e n k room =
+-- a run of k years: of none, from a year past the last, or past it, and then a row too short, is refused
+unfoldable pub runAsked : {A : Type 0} → ℕ → ℕ → ℕ → Reply A → Reply A
+runAsked n k room later =
     refuseIf (k =? 0) noYear
     (refuseIf (lastYear <? n) noYear
     (refuseIf (suc lastYear - n <? k) noYear
     (refuseIf (room <? yearRoom * k) shortRow
-    (answer (monthsInRun (calendar e) n k)))))
+    later)))
+
+unfoldable pub runReply : Epoch → ℕ → ℕ → ℕ → Reply ℕ
+runReply e n k room = runAsked n k room (answer (monthsInRun (calendar e) n k))

@@ -1,29 +1,29 @@
 // A year's list and a run of years, as month records in a lent row of numbers.
-use crate::Kind;
-use crate::Span;
-use crate::first_day;
-use crate::head_span;
-use crate::kind_by;
-use crate::last_term;
-use crate::middle_day;
 use measure::Answer;
 use measure::LAST_YEAR;
 use measure::NO_YEAR;
 use measure::SHORT_ROW;
+use months::Span;
+use months::first_day;
+use months::head_span;
+use months::kind_by;
+use months::last_term;
+use months::leap_mark;
+use months::middle_day;
+use months::number_in;
 ghost use mathlib.Core.Path.{_≡_};
 ghost use mathlib.Core.List.{[], _∷_};
 ghost use Prim.Native.Nat.{suc, _+_, _*_, _/_, _≤_};
 ghost use lib.ListN.{length};
-ghost use Rattle.measure.specs.Reply.{answerSaid};
+ghost use Rattle.measure.specs.Reply.{answer, answerSaid};
 ghost use Rattle.measure.specs.Row.{over, rowAfter};
 ghost use Rattle.measure.specs.Units.{lastYear};
 ghost use Rattle.measure.specs.Epoch.{shoushi};
 ghost use Rattle.moons.specs.Lunation.{lastLunation};
 ghost use Rattle.month_law.specs.Calendar.{head, monthsIn};
 ghost use Rattle.month_law.specs.Edition.{calendar};
-ghost use Rattle.months.specs.Month.{kindSaid, numberIn, markIn};
 ghost use Rattle.months.specs.Span.{spanOf};
-ghost use Rattle.months.specs.Records.{recordWidth, yearRoom, recordOf, recordsOf, runOf, monthsInRun, listReply, runReply};
+ghost use Rattle.lists.specs.Records.{recordWidth, yearRoom, recordOf, recordsOf, runOf, monthsInRun, runAsked, listReply, runReply};
 
 // How many numbers a record has, and where each stands in it.
 pub const RECORD_WIDTH: usize = 4;
@@ -45,15 +45,7 @@ pub fn list(n: u64, row: &mut [u64]) -> Answer
     ensures { λ r. ⌜ answerSaid r ≡ listReply shoushi n (length (now (row .entry)) / recordWidth) ⌝ }
     ensures { λ _. ⌜ now (row .exit) ≡ rowAfter (listReply shoushi n (length (now (row .entry)) / recordWidth)) (recordsOf (calendar shoushi) n (monthsIn (calendar shoushi) n)) (now (row .entry)) ⌝ }
 {
-    if LAST_YEAR < n {
-        return Answer::Refused(NO_YEAR);
-    }
-    if room(row) < YEAR_ROOM {
-        return Answer::Refused(SHORT_ROW);
-    }
-    let start = head_span(n);
-    let end = write_year(n, start, row);
-    Answer::Number(end.lunation - start.lunation)
+    run(n, 1, row)
 }
 
 // The records of so many years from n on, each list from where the one before it ended; how many there are. A run of no years or past
@@ -61,6 +53,16 @@ pub fn list(n: u64, row: &mut [u64]) -> Answer
 pub fn run(n: u64, count: u64, row: &mut [u64]) -> Answer
     ensures { λ r. ⌜ answerSaid r ≡ runReply shoushi n count (length (now (row .entry)) / recordWidth) ⌝ }
     ensures { λ _. ⌜ now (row .exit) ≡ rowAfter (runReply shoushi n count (length (now (row .entry)) / recordWidth)) (runOf (calendar shoushi) n count) (now (row .entry)) ⌝ }
+{
+    match run_asked(n, count, room(row)) {
+        Answer::Refused(k) => Answer::Refused(k),
+        Answer::Number(_) => Answer::Number(write_years(n, count, row)),
+    }
+}
+
+// Whether a run is answered where a row has room for so many records: its years, or its refusal.
+pub fn run_asked(n: u64, count: u64, room: u64) -> Answer
+    ensures { λ r. ⌜ answerSaid r ≡ runAsked n count room (answer count) ⌝ }
 {
     if count == 0 {
         return Answer::Refused(NO_YEAR);
@@ -71,10 +73,10 @@ pub fn run(n: u64, count: u64, row: &mut [u64]) -> Answer
     if LAST_YEAR + 1 - n < count {
         return Answer::Refused(NO_YEAR);
     }
-    if room(row) < YEAR_ROOM * count {
+    if room < YEAR_ROOM * count {
         return Answer::Refused(SHORT_ROW);
     }
-    Answer::Number(write_years(n, count, row))
+    Answer::Number(count)
 }
 
 // How many records a row has room for.
@@ -156,24 +158,4 @@ fn put_record(first: u64, days: u64, number: u64, mark: u64, row: &mut [u64])
     row[LENGTH] = days;
     row[NUMBER] = number;
     row[MARK] = mark;
-}
-
-// The number of a month, ordinary or leap.
-pub fn number_in(kind: Kind) -> u64
-    ensures { λ r. ⌜ r ≡ numberIn (kindSaid kind) ⌝ }
-{
-    match kind {
-        Kind::Ordinary(number) => number,
-        Kind::Leap(number) => number,
-    }
-}
-
-// A month's leap mark: 1 where it is leap, else 0.
-pub fn leap_mark(kind: Kind) -> u64
-    ensures { λ r. ⌜ r ≡ markIn (kindSaid kind) ⌝ }
-{
-    match kind {
-        Kind::Ordinary(_) => 0,
-        Kind::Leap(_) => 1,
-    }
 }

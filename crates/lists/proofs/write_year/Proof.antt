@@ -1,4 +1,4 @@
--- `months::records::write_year` meets its contract: after each turn the months before the span's are listed.
+-- `lists::write_year` meets its contract: after each turn the months before the span's are listed.
 -- Assumes nothing.
 use mathlib.Core.List.{List}
 use mathlib.Core.Path.{_≡_}
@@ -13,13 +13,13 @@ use Rattle.moons.specs.Lunation.{lastLunation}
 use Rattle.month_law.specs.Calendar.{Calendar, head}
 use Rattle.month_law.specs.Edition.{calendar}
 use Rattle.month_law.proofs.Edition.{shoushi-lawful}
-use Rattle.months.specs.Records.{recordWidth, yearRoom}
+use Rattle.lists.specs.Records.{recordWidth, yearRoom}
 use Rattle.months.specs.declared.Span.{Span}
 use Rattle.months.proofs.Spans.{lunation-is, over-by, not-over}
 use Rattle.months.proofs.Reach.{head-most}
-use Rattle.months.proofs.YearList.{Listing, begins, has-room, goes-on, ends}
-use Rattle.months.proofs.records.write_year.Statement.{statement}
-use Rattle.months.proofs.records.write_year.Tie as tie
+use Rattle.lists.proofs.YearList.{Listing, begins, has-room, goes-on, ends}
+use Rattle.lists.proofs.write_year.Statement.{statement}
+use Rattle.lists.proofs.write_year.Tie as tie
 
 abbrev cal : Calendar
 cal = calendar shoushi

@@ -1,4 +1,4 @@
--- `months::records::put_record` meets its contract: one store after the other. Assumes nothing.
+-- `lists::put_record` meets its contract: one store after the other. Assumes nothing.
 use mathlib.Core.List.{[], _∷_}
 use mathlib.Core.Path.{refl}
 use native.Mathlib.Omega.{arith}
@@ -7,8 +7,8 @@ use lib.ListN.{length-set}
 use denote.Ref.{now}
 use Rattle.measure.specs.Row.{over}
 use Rattle.measure.proofs.Row.{put}
-use Rattle.months.proofs.records.put_record.Statement.{statement}
-use Rattle.months.proofs.records.put_record.Tie as tie
+use Rattle.lists.proofs.put_record.Statement.{statement}
+use Rattle.lists.proofs.put_record.Tie as tie
 
 slice-write-row : tie.Need-slice-write-row
 slice-write-row c = search needs

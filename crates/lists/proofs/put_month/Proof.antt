@@ -1,4 +1,4 @@
--- `months::records::put_month` meets its contract: the last middle term before the month's end tells its kind. Assumes nothing.
+-- `lists::put_month` meets its contract: the last middle term before the month's end tells its kind. Assumes nothing.
 use mathlib.Core.List.{[], _∷_}
 use mathlib.Core.Path.{_≡_, _∙_, ap}
 use Prim.Native.Nat.{ℕ, suc, _-_}
@@ -8,15 +8,15 @@ use Rattle.measure.specs.Epoch.{shoushi}
 use Rattle.month_law.specs.Calendar.{Calendar}
 use Rattle.month_law.specs.Edition.{calendar}
 use Rattle.month_law.proofs.Edition.{shoushi-lawful}
 use Rattle.months.specs.Month.{Kind, kindSaid, numberIn, markIn}
 use Rattle.months.specs.Span.{spanOf, kindBy, LastBefore}
-use Rattle.months.specs.Records.{recordOf}
+use Rattle.lists.specs.Records.{recordOf}
 use Rattle.months.specs.declared.Span.{Span}
 use Rattle.months.proofs.Reach.{end-small, term-small}
 use Rattle.months.proofs.Spans.{first-is, next-is, first-before, term-come, last-of-month}
-use Rattle.months.proofs.RecordLaws.{recordBy, record-told}
-use Rattle.months.proofs.records.put_month.Statement.{statement}
-use Rattle.months.proofs.records.put_month.Tie as tie
+use Rattle.lists.proofs.RecordLaws.{recordBy, record-told}
+use Rattle.lists.proofs.put_month.Statement.{statement}
+use Rattle.lists.proofs.put_month.Tie as tie
 
 abbrev cal : Calendar
 cal = calendar shoushi
