@@ -28,8 +28,10 @@ use Rattle.month_law.specs.Edition.{middleDay, calendar}
 use Rattle.months.specs.Head.{headReply}
 use Rattle.months.specs.Month.{ordinary, leap, kindAt, placed, monthOfDay, dayAt, dayReply, backReply}
 use Rattle.lists.specs.Records.{recordAt, recordsOf, runOf, monthsInRun, runAsked, listReply, runReply}
-use Rattle.lines.specs.Digits.{digitByte, digitsOf, digitOf}
-use Rattle.lines.specs.Line.{spelled, dayAsked, lineReply, lineOf, lastLine, outputFrom, output}
+use Rattle.day_lines.specs.Digits.{digitOf}
+use Rattle.day_lines.specs.DayLine.{spelled, dayAsked}
+use Rattle.lines.specs.Digits.{digitByte, digitsOf}
+use Rattle.lines.specs.Line.{lineReply, lineOf, lastLine, outputFrom, output}
 use Rattle.viewer.specs.Bytes.{lowFirst, bytesOf, roomIn}
 
 -- the input 00023, 0003F, 00022, 00g40 and its output

@@ -1,4 +1,4 @@
--- Laws of lines and their replies: the first line of an input and what is handed on, what is refused, and how long a reply is.
+-- Laws of replies to lines: what is refused, how long a reply is, and the replies to all lines of an input.
 -- Assumes nothing.
 use mathlib.Core.Bool.{Bool, true, false}
 use mathlib.Core.Logic.{⊎-elim}
@@ -6,12 +6,11 @@ use mathlib.Core.Path.{_≡_, _∙_, refl, sym, ap}
 use mathlib.Core.List.{List, [], _∷_, _++_, append-assoc, append-nil}
 use Prim.Native.Nat.{ℕ, zero, suc, _+_, _-_, _*_, _≤_, _<_}
 use native.Mathlib.Nat.{not-suc-le-zero, suc-add}
-use native.Mathlib.Numerals.{add-one}
 use native.Mathlib.Omega.{arith}
 use borrow.Author.Tests.{eqb-true, le-ltb}
 use borrow.Rule.Slice.PartMut.{putMid}
-use lib.ListN.{length, getD, take, drop, replicate, length-append, length-drop}
-use lib.Seq.{drop-cons, length-take-le}
+use lib.ListN.{length, take, drop, replicate, length-append}
+use lib.Seq.{length-take-le}
 use Rattle.measure.specs.Choice.{if_then_else_, _<?_, _=?_}
 use Rattle.measure.specs.Reply.{Reply, answer, refused, noDay, badLine, refuseIf}
 use Rattle.measure.specs.Row.{over}
@@ -20,34 +19,13 @@ use Rattle.measure.proofs.Choice.{passes-or-fails}
 use Rattle.measure.proofs.Row.{grow}
 use Rattle.months.specs.Month.{Kind, ordinary, leap, MonthOfDay, earliest, latest, dayReply}
 use Rattle.lines.specs.Digits.{digitsOf}
-use Rattle.lines.specs.Line.{lineEnd, lineLength, restAfter, spelled, dayAsked, lineReply, kindDigits, lineOf, lastLine, outputFrom, output, replyRoom, outputReply}
+use Rattle.day_lines.specs.DayLine.{lineEnd, lineLength, restAfter, dayAsked}
+use Rattle.day_lines.proofs.LineLaws.{length-most, only-bad, rest-length}
+use Rattle.lines.specs.Line.{lineReply, kindDigits, lineOf, lastLine, outputFrom, output, replyRoom, outputReply}
 use Rattle.lines.proofs.RowLaws.{written}
-use Rattle.lines.proofs.DigitLaws.{length-digits, spelled-only}
-
--- one byte more of a line
-pub length-step : (input : List ℕ) (n : ℕ) → n < length input
-    → lineLength (drop n input) ≡ (if getD input n 0 =? lineEnd then 0 else suc (lineLength (drop (n + 1) input)))
-unfolding lineLength
-length-step input n h = rw (add-one, drop-cons input n 0)
-
-pub length-most : (input : List ℕ) → lineLength input ≤ length input
-unfolding lineLength
-length-most [] = omega arith
-length-most (b ∷ bs) = most (b =? lineEnd) (lineLength bs) (length bs) (length-most bs)
-  where
-    most : (t : Bool) (m n : ℕ) → m ≤ n → (if t then 0 else suc m) ≤ suc n
-    most true m n h = omega arith
-    most false m n h = omega arith
+use Rattle.lines.proofs.DigitLaws.{length-digits}
 
 -- what is refused: a line that asks for no day
-only-bad : (line : List ℕ) (k : ℕ) → dayAsked line ≡ refused k → k ≡ badLine
-unfolding dayAsked
-only-bad line k h = only (length line =? 5) h
-  where
-    only : (t : Bool) → (if t then spelled (answer 0) line else refused badLine) ≡ refused k → k ≡ badLine
-    only true f = spelled-only 0 k line f
-    only false f = cc
-
 pub bad-line : (e : Epoch) (line : List ℕ) (k : ℕ) → dayAsked line ≡ refused k → lineReply e line ≡ refused badLine
 unfolding lineReply
 bad-line e line k h = rw h (ap refused (only-bad line k h))
@@ -106,11 +84,7 @@ reply-room e line n h some =
     most (answer m) = omega (arith, month-length m)
     most (refused k) = omega (arith, refusal-length k)
 
--- what is handed on is shorter, and room is left for its replies
-pub rest-length : (n : ℕ) (input : List ℕ) → length (restAfter n input) ≡ length input - (n + 1)
-unfolding restAfter
-rest-length n input = length-drop (n + 1) input
-
+-- room is left for the replies to what is handed on
 pub room-left : (e : Epoch) (left : List ℕ) (n : ℕ) → n ≡ lineLength left → 0 < length left
     → length (lineOf (lineReply e (take n left))) + replyRoom * length (restAfter n left) ≤ replyRoom * length left
 room-left e left n h some =

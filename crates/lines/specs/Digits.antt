@@ -1,11 +1,8 @@
--- Hexadecimal digits, as bytes.
+-- Hexadecimal digits, as they are written.
 -- Assumes nothing.
-use mathlib.Core.Bool.{_&&_}
 use mathlib.Core.List.{List, [], _∷_, _++_}
-use Prim.Native.Nat.{ℕ, zero, suc, _+_, _-_, _/_, _%_}
-use Rattle.measure.specs.Choice.{if_then_else_, _≤?_, _<?_}
-use Rattle.lines.specs.declared.Digit.{Digit as DigitCase}
-use Rattle.lines.specs.declared.Digit.the-variants.{Worth, Nothing}
+use Prim.Native.Nat.{ℕ, zero, suc, _+_, _/_, _%_}
+use Rattle.measure.specs.Choice.{if_then_else_, _<?_}
 
 -- the byte of a digit: 0-9, then A-F
 unfoldable pub digitByte : ℕ → ℕ
@@ -15,17 +12,3 @@ digitByte v = if v <? 10 then v + 48 else v + 55
 unfoldable pub digitsOf : ℕ → ℕ → List ℕ
 digitsOf zero n = []
 digitsOf (suc w) n = digitsOf w (n / 16) ++ (digitByte (n % 16) ∷ [])
-
-pub data Digit : Type 0 where
-  worth : ℕ → Digit
-  noDigit : Digit
-
--- what a byte is worth
-unfoldable pub digitOf : ℕ → Digit
-digitOf b =
-    if (48 ≤? b) && (b <? 58) then worth (b - 48) else if (65 ≤? b) && (b <? 71) then worth (b - 55) else noDigit
-
--- the paper's digit that each case stands for
-abbrev pub digitSaid : DigitCase → Digit
-digitSaid (Worth v) = worth v
-digitSaid Nothing = noDigit

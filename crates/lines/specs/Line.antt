@@ -1,41 +1,14 @@
--- "The line program": one frame a line, one day in and one month out.
+-- "The line program": one frame a line, one day in and one month out. How a line asks for a day is in `day_lines`.
 -- Assumes nothing.
 use mathlib.Core.List.{List, [], _∷_, _++_}
-use Prim.Native.Nat.{ℕ, suc, _+_, _*_}
-use lib.ListN.{length, drop}
+use Prim.Native.Nat.{ℕ, _*_}
+use lib.ListN.{length}
 use Rattle.measure.specs.Choice.{if_then_else_, _<?_, _=?_}
-use Rattle.measure.specs.Reply.{Reply, answer, refused, shortRow, badLine, refuseIf}
+use Rattle.measure.specs.Reply.{Reply, answer, refused, shortRow, refuseIf}
 use Rattle.measure.specs.Epoch.{Epoch}
 use Rattle.months.specs.Month.{Kind, ordinary, leap, MonthOfDay, dayReply}
-use Rattle.lines.specs.Digits.{digitsOf, Digit, worth, noDigit, digitOf}
-
--- a line ends at this byte, or at the end of the input
-abbrev pub lineEnd : ℕ
-lineEnd = 0x0A
-
--- how many bytes the first line of an input has
-unfoldable pub lineLength : List ℕ → ℕ
-lineLength [] = 0
-lineLength (b ∷ bs) = if b =? lineEnd then 0 else suc (lineLength bs)
-
--- what is handed on, as it stands, after a line of n bytes and its line end
-unfoldable pub restAfter : ℕ → List ℕ → List ℕ
-restAfter n input = drop (n + 1) input
-
--- one digit more of a number
-abbrev pub withDigit : Reply ℕ → Digit → Reply ℕ
-withDigit (answer n) (worth v) = answer (n * 16 + v)
-withDigit (answer n) noDigit = refused badLine
-withDigit (refused k) d = refused k
-
--- the number that digits spell, after what was read before them
-unfoldable pub spelled : Reply ℕ → List ℕ → Reply ℕ
-spelled before [] = before
-spelled before (b ∷ bs) = spelled (withDigit before (digitOf b)) bs
-
--- the day that a line asks for: exactly five digits
-unfoldable pub dayAsked : List ℕ → Reply ℕ
-dayAsked line = if length line =? 5 then spelled (answer 0) line else refused badLine
+use Rattle.day_lines.specs.DayLine.{lineEnd, dayAsked}
+use Rattle.lines.specs.Digits.{digitsOf}
 
 -- a malformed line is refused before a day outside the calendar
 unfoldable pub lineReply : Epoch → List ℕ → Reply MonthOfDay

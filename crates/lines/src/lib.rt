@@ -1,4 +1,8 @@
-// Hexadecimal lines, a day in and a month out.
+// The replies to hexadecimal lines: a day in and a month out.
+use day_lines::LINE_END;
+use day_lines::day_asked;
+use day_lines::line_len;
+use day_lines::rest;
 use measure::Answer;
 use measure::BAD_LINE;
 use measure::NO_DAY;
@@ -14,58 +18,10 @@ ghost use Rattle.measure.specs.Reply.{answer, refused, answerSaid};
 ghost use Rattle.measure.specs.Row.{over, rowAfter};
 ghost use Rattle.measure.specs.Epoch.{shoushi};
 ghost use Rattle.months.specs.Month.{kindSaid, monthSaid};
-ghost use Rattle.lines.specs.Digits.{digitByte, digitsOf, digitOf, digitSaid};
-ghost use Rattle.lines.specs.Line.{lineLength, restAfter, dayAsked, lineReply, kindDigits, lineOf, output, replyRoom, outputReply};
-
-pub const LINE_END: u8 = 0x0A;
-
-const DIGITS_ASKED: usize = 5;
+ghost use Rattle.lines.specs.Digits.{digitByte, digitsOf};
+ghost use Rattle.lines.specs.Line.{lineReply, kindDigits, lineOf, output, replyRoom, outputReply};
 
 pub const REPLY_ROOM: usize = 3;
-
-// How many bytes the first line of the input has: those before the line end, or all.
-pub fn line_len(input: &[u8]) -> usize
-    ensures { λ r. ⌜ r ≡ lineLength (now (input .entry)) ⌝ }
-{
-    let mut n: usize = 0;
-    while n < input.len() {
-        if input[n] == LINE_END {
-            return n;
-        }
-        n += 1;
-    }
-    n
-}
-
-// The rest of the input, after a line of n bytes and its line end. It is handed on as it stands.
-pub fn rest<'a>(input: &'a [u8], n: usize) -> &'a [u8]
-    ensures { λ r. ⌜ now r ≡ restAfter n (now (input .entry)) ⌝ }
-{
-    if n < input.len() {
-        &input[n + 1..]
-    } else {
-        &input[..0]
-    }
-}
-
-// The day that a line asks for. A line that is not exactly five digits is refused with 5.
-pub fn day_asked(line: &[u8]) -> Answer
-    ensures { λ r. ⌜ answerSaid r ≡ dayAsked (now (line .entry)) ⌝ }
-{
-    if line.len() != DIGITS_ASKED {
-        return Answer::Refused(BAD_LINE);
-    }
-    let mut day: u64 = 0;
-    let mut i: usize = 0;
-    while i < DIGITS_ASKED {
-        let Digit::Worth(v) = digit_of(line[i]) else {
-            return Answer::Refused(BAD_LINE);
-        };
-        day = day * 16 + v;
-        i += 1;
-    }
-    Answer::Number(day)
-}
 
 // The replies to all lines of the input, from the row's start; how many bytes they have. A row with less than three bytes for each
 // byte of the input is refused with 4.
@@ -77,22 +33,6 @@ pub fn replies(input: &[u8], out: &mut [u8]) -> Answer
         return Answer::Refused(SHORT_ROW);
     }
     Answer::Number(write_replies(input, out) as u64)
-}
-
-enum Digit {
-    Worth(u64),
-    Nothing,
-}
-
-// What a byte is worth as a digit.
-fn digit_of(b: u8) -> Digit
-    ensures { λ r. ⌜ digitSaid r ≡ digitOf b ⌝ }
-{
-    match b {
-        b'0'..=b'9' => Digit::Worth(b as u64 - 48),
-        b'A'..=b'F' => Digit::Worth(b as u64 - 55),
-        _ => Digit::Nothing,
-    }
 }
 
 // A turn for each line: the line is answered, and the rest handed on.

@@ -14,7 +14,8 @@ use Rattle.measure.specs.Choice.{if_then_else_, _=?_}
 use Rattle.measure.specs.Reply.{refused, badLine}
 use Rattle.measure.specs.Epoch.{Epoch}
 use Rattle.measure.proofs.Choice.{lt-or-ge}
-use Rattle.lines.specs.Line.{lineEnd, lineLength, dayAsked, lineReply, lineOf, lastLine, outputFrom, output}
+use Rattle.day_lines.specs.DayLine.{lineEnd, lineLength, dayAsked}
+use Rattle.lines.specs.Line.{lineReply, lineOf, lastLine, outputFrom, output}
 use Rattle.lines.proofs.LineLaws.{bad-line}
 use Rattle.month_lines.specs.Block.{enough}
 

@@ -5,7 +5,8 @@ use mathlib.Core.List.{List, _++_}
 use Prim.Native.Nat.{ℕ, _-_, _≤_, _<_}
 use lib.ListN.{length, getD, drop}
 use Rattle.measure.specs.Epoch.{shoushi}
-use Rattle.lines.specs.Line.{lineEnd, lineLength, output}
+use Rattle.day_lines.specs.DayLine.{lineEnd, lineLength}
+use Rattle.lines.specs.Line.{output}
 
 -- a line of six bytes is refused, whatever follows: no more of it need be kept
 abbrev pub enough : ℕ

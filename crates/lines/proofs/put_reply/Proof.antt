@@ -7,7 +7,8 @@ use lib.ListN.{length}
 use Rattle.measure.specs.Reply.{Reply, answer, refused, noDay, badLine, answerSaid}
 use Rattle.measure.specs.Epoch.{shoushi}
 use Rattle.months.specs.Month.{MonthOfDay, monthSaid, replySaid}
-use Rattle.lines.specs.Line.{dayAsked, lineReply, lineOf}
+use Rattle.day_lines.specs.DayLine.{dayAsked}
+use Rattle.lines.specs.Line.{lineReply, lineOf}
 use Rattle.lines.proofs.LineLaws.{bad-line, asked-reply, outside-day, month-length, refusal-length}
 use Rattle.lines.proofs.put_reply.Statement.{statement}
 use Rattle.lines.proofs.put_reply.Tie as tie

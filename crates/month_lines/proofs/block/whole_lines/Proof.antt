@@ -6,8 +6,8 @@ use borrow.Author.Tests.{ne-eqb}
 use denote.Ref.{now}
 use lib.ListN.{length, drop, length-drop}
 use lib.Seq.{drop-length}
-use Rattle.lines.specs.Line.{lineLength}
-use Rattle.lines.proofs.LineLaws.{length-step}
+use Rattle.day_lines.specs.DayLine.{lineLength}
+use Rattle.day_lines.proofs.LineLaws.{length-step}
 use Rattle.month_lines.proofs.block.whole_lines.Statement.{statement}
 use Rattle.month_lines.proofs.block.whole_lines.Tie as tie
 

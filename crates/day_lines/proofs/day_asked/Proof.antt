@@ -1,4 +1,4 @@
--- `lines::day_asked` meets its contract. Assumes nothing.
+-- `day_lines::day_asked` meets its contract. Assumes nothing.
 use mathlib.Core.Path.{_≡_, _∙_, refl, sym, ap}
 use mathlib.Core.List.{[]}
 use Prim.Native.Nat.{ℕ, _+_, _-_, _*_, _^_, _≤_, _<_}
@@ -11,11 +11,11 @@ use denote.Ref.{now}
 use lib.Dec.{lit<}
 use lib.ListN.{getD, drop, drop-of-length-le}
 use Rattle.measure.specs.Reply.{answer, badLine}
-use Rattle.lines.specs.Digits.{Digit, worth, noDigit, digitOf, digitSaid}
-use Rattle.lines.specs.Line.{withDigit, spelled, dayAsked}
-use Rattle.lines.proofs.DigitLaws.{small, spelled-refused, spelled-step, power}
-use Rattle.lines.proofs.day_asked.Statement.{statement}
-use Rattle.lines.proofs.day_asked.Tie as tie
+use Rattle.day_lines.specs.Digits.{Digit, worth, noDigit, digitOf, digitSaid}
+use Rattle.day_lines.specs.DayLine.{withDigit, spelled, dayAsked}
+use Rattle.day_lines.proofs.DigitLaws.{small, spelled-refused, spelled-step, power}
+use Rattle.day_lines.proofs.day_asked.Statement.{statement}
+use Rattle.day_lines.proofs.day_asked.Tie as tie
 
 abbrev Inv-loop : tie.InvT-loop
 Inv-loop line day₀ i₀ day i = (i ≤ 5) × (spelled (answer 0) line ≡ spelled (answer day) (drop i line)) × (day < 16 ^ i)

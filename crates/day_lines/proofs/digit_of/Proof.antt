@@ -1,10 +1,10 @@
--- `lines::digit_of` meets its contract. Assumes nothing.
+-- `day_lines::digit_of` meets its contract. Assumes nothing.
 use native.Mathlib.Omega.{arith}
 use borrow.Author.Tests.{le-leb, lt-leb, lt-ltb, le-ltb}
 use borrow.Author.Needs.{needs}
-use Rattle.lines.specs.Digits.{digitOf}
-use Rattle.lines.proofs.digit_of.Statement.{statement}
-use Rattle.lines.proofs.digit_of.Tie as tie
+use Rattle.day_lines.specs.Digits.{digitOf}
+use Rattle.day_lines.proofs.digit_of.Statement.{statement}
+use Rattle.day_lines.proofs.digit_of.Tie as tie
 
 sub-t5 : tie.Need-sub-t5
 sub-t5 c = search needs
