@@ -2,7 +2,7 @@
 -- Assumes nothing.
 use mathlib.Core.Bool.{Bool, true, false}
 use mathlib.Core.Logic.{⊎-elim}
-use mathlib.Core.Path.{_≡_, _∙_, refl, sym, ap}
+use mathlib.Core.Path.{_≡_, _∙_, refl, ap}
 use mathlib.Core.List.{List, [], _∷_, _++_, append-assoc, append-nil}
 use Prim.Native.Nat.{ℕ, zero, suc, _+_, _-_, _*_, _≤_, _<_}
 use native.Mathlib.Nat.{not-suc-le-zero, suc-add}
@@ -16,13 +16,12 @@ use Rattle.measure.specs.Reply.{Reply, answer, refused, noDay, badLine, refuseI
 use Rattle.measure.specs.Row.{over}
 use Rattle.measure.specs.Epoch.{Epoch}
 use Rattle.measure.proofs.Choice.{passes-or-fails}
-use Rattle.measure.proofs.Row.{grow}
+use Rattle.measure.proofs.Row.{more-written}
 use Rattle.months.specs.Month.{Kind, ordinary, leap, MonthOfDay, earliest, latest, dayReply}
 use Rattle.lines.specs.Digits.{digitsOf}
 use Rattle.day_lines.specs.DayLine.{lineEnd, lineLength, restAfter, dayAsked}
 use Rattle.day_lines.proofs.LineLaws.{length-most, only-bad, rest-length}
 use Rattle.lines.specs.Line.{lineReply, kindDigits, lineOf, lastLine, outputFrom, output, replyRoom, outputReply}
-use Rattle.lines.proofs.RowLaws.{written}
 use Rattle.lines.proofs.DigitLaws.{length-digits}
 
 -- what is refused: a line that asks for no day
@@ -134,16 +133,9 @@ module _ (e : Epoch) where
       → (output e input ≡ take (used + r) (putMid used (length now - used) now part) ++ output e next)
       × (putMid used (length now - used) now part ≡ over (take (used + r) (putMid used (length now - used) now part)) row)
   turn input left next row now part used n r fits done whole some en er ep ex =
-      let p = take used now in
-      let q = lineOf (lineReply e (take n left)) in
-      let after = putMid used (length now - used) now part in
-      let lp : length p ≡ used = length-take-le used now fits in
-      let w : after ≡ over (p ++ q) row = grow p q row now part used whole lp ep in
-      let lq : length (p ++ q) ≡ used + r = omega (arith, length-append p q) in
-      let f : take (used + r) after ≡ p ++ q = written (p ++ q) row after (used + r) lq w in (
-        done ∙ ap (λ (l : List ℕ). p ++ l) (rw (ex, en) (first-line left some)) ∙ sym (append-assoc p q (output e next)) ∙ ap (λ (l : List ℕ). l ++ output e next) (sym f),
-        w ∙ ap (λ (l : List ℕ). over l row) (sym f),
-      )
+      let first : output e left ≡ lineOf (lineReply e (take n left)) ++ output e next = rw (ex, en) (first-line left some) in
+      let all = done ∙ ap (λ (l : List ℕ). take used now ++ l) first in
+      more-written (output e input) (lineOf (lineReply e (take n left))) (output e next) row now part used r fits all whole er ep
 
   -- with room enough nothing is refused
   pub answered-whole : (input : List ℕ) (room : ℕ) → replyRoom * length input ≤ room → outputReply e input room ≡ answer (length (output e input))

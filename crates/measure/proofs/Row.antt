@@ -2,12 +2,12 @@
 -- Assumes nothing.
 use mathlib.Core.Path.{_≡_, _∙_, refl, sym, ap}
 use mathlib.Core.List.{List, [], _∷_, _++_, append-assoc, append-nil}
-use Prim.Native.Nat.{ℕ, zero, suc, _+_, _-_, _<_}
+use Prim.Native.Nat.{ℕ, zero, suc, _+_, _-_, _≤_, _<_}
 use native.Mathlib.Nat.{zero-add, add-zero, suc-add, add-suc}
 use native.Mathlib.Numerals.{add-one}
 use native.Mathlib.Omega.{arith}
-use lib.ListN.{length, getD, take, drop, set, length-append}
-use lib.Seq.{drop-cons, set-at, take-at, drop-at, take-length, drop-length, drop-drop}
+use lib.ListN.{length, getD, take, drop, set, length-append, length-drop}
+use lib.Seq.{drop-cons, set-at, take-at, drop-at, take-length, drop-length, drop-drop, length-take-le}
 use borrow.Rule.Slice.PartMut.{putMid}
 use Rattle.measure.specs.Row.{listed, over}
 
@@ -72,6 +72,34 @@ pub grow : (new more row now rest : List ℕ) (u : ℕ) → now ≡ over new row
 unfolding over
 grow new more row now rest u e k g =
     rw (g, e) (rest-written new more (drop (length new) row) u k) ∙ over-append new more row
+
+pub length-over : (new row : List ℕ) → length new ≤ length row → length (over new row) ≡ length row
+unfolding over
+length-over new row h = omega (arith, length-append new (drop (length new) row), length-drop (length new) row)
+
+pub over-least : (new row : List ℕ) → length new ≤ length (over new row)
+unfolding over
+over-least new row = omega (arith, length-append new (drop (length new) row))
+
+-- what is taken of a row as far as it was written
+pub written : (new row now : List ℕ) (u : ℕ) → length new ≡ u → now ≡ over new row → take u now ≡ new
+unfolding over
+written new row now u e h = ap (take u) h ∙ take-at new (drop (length new) row) u e
+
+-- a part of a whole is written into a row that holds what of the whole comes before it
+pub more-written : (all more left row now part : List ℕ) (used r : ℕ) → used ≤ length now → all ≡ take used now ++ (more ++ left)
+    → now ≡ over (take used now) row → r ≡ length more → part ≡ over more (restFrom used now)
+    → (all ≡ take (used + r) (withRest used now part) ++ left)
+    × (withRest used now part ≡ over (take (used + r) (withRest used now part)) row)
+more-written all more left row now part used r fits whole held er ep =
+    let p = take used now in
+    let after = withRest used now part in
+    let w : after ≡ over (p ++ more) row = grow p more row now part used held (length-take-le used now fits) ep in
+    let l : length (p ++ more) ≡ used + r = omega (arith, length-append p more, length-take-le used now fits) in
+    let f : take (used + r) after ≡ p ++ more = written (p ++ more) row after (used + r) l w in (
+      whole ∙ sym (append-assoc p more left) ∙ ap (λ (x : List ℕ). x ++ left) (sym f),
+      w ∙ ap (λ (x : List ℕ). over x row) (sym f),
+    )
 
 -- a list and the list that goes on from its end are one list
 pub listed-append : (f : ℕ → ℕ) (i j k : ℕ) → listed f i j ++ listed f (i + j) k ≡ listed f i (j + k)

@@ -7,12 +7,11 @@ use borrow.Author.Needs.{needs}
 use denote.Ref.{now}
 use lib.ListN.{length}
 use Rattle.measure.specs.Reply.{answer}
-use Rattle.measure.proofs.Row.{put, grow}
+use Rattle.measure.proofs.Row.{put, grow, length-over}
 use Rattle.months.specs.Month.{monthSaid}
 use Rattle.lines.specs.Digits.{digitsOf}
 use Rattle.lines.specs.Line.{kindDigits, lineOf}
 use Rattle.lines.proofs.DigitLaws.{length-digits}
-use Rattle.lines.proofs.RowLaws.{length-over}
 use Rattle.lines.proofs.LineLaws.{to-kind, to-first, to-length, month-length}
 use Rattle.lines.proofs.put_month.Statement.{statement}
 use Rattle.lines.proofs.put_month.Tie as tie

@@ -8,8 +8,8 @@ use lib.ListN.{length}
 use Rattle.measure.specs.Reply.{answer, answerSaid}
 use Rattle.measure.specs.Row.{over}
 use Rattle.measure.specs.Epoch.{shoushi}
+use Rattle.measure.proofs.Row.{written, over-least}
 use Rattle.lines.specs.Line.{output}
-use Rattle.lines.proofs.RowLaws.{written, over-least}
 use Rattle.lines.proofs.LineLaws.{answered-whole}
 use Rattle.month_lines.proofs.block.answer_lines.Statement.{statement}
 use Rattle.month_lines.proofs.block.answer_lines.Tie as tie
