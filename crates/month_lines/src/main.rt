@@ -1,6 +1,4 @@
 // Reads days from standard input, a line each, and writes the month of each to standard output.
-mod block;
-
 use libc::STDIN_FILENO;
 use libc::STDOUT_FILENO;
 use lines::REPLY_ROOM;
@@ -8,7 +6,7 @@ ghost use mathlib.Core.Path.{_≡_};
 ghost use Prim.Native.Nat.{_*_, _≤_};
 ghost use lib.ListN.{length, take};
 ghost use Rattle.lines.specs.Line.{replyRoom};
-ghost use Rattle.month_lines.specs.Block.{enough};
+ghost use Rattle.blocks.specs.Block.{enough};
 
 // How many bytes of an unfinished line are kept at the buffer's start, and whether to go on.
 struct Turn {
@@ -44,14 +42,14 @@ fn one_turn(buf: &mut [u8], out: &mut [u8], kept: usize) -> Turn
 {
     let have = fill(buf, kept);
     if have == kept {
-        let last = block::answer_lines(&buf[..kept], out);
+        let last = blocks::answer_lines(&buf[..kept], out);
         io::write_all(STDOUT_FILENO, &out[..last]);
         return Turn {
             kept: 0,
             more: false,
         };
     }
-    let answered = block::answer_block(buf, have, out);
+    let answered = blocks::answer_block(buf, have, out);
     let written = answered.written;
     let ok = io::write_all(STDOUT_FILENO, &out[..written]);
     Turn {

@@ -3,7 +3,7 @@ use mathlib.Core.Path.{_≡_, sym}
 use Prim.Native.Nat.{_≤_}
 use native.Mathlib.Omega.{arith}
 use lib.ListN.{length}
-use Rattle.month_lines.specs.Block.{enough}
+use Rattle.blocks.specs.Block.{enough}
 use Rattle.month_lines.proofs.main.Statement.{statement}
 use Rattle.month_lines.proofs.main.Tie as tie
 

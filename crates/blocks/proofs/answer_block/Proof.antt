@@ -1,4 +1,4 @@
--- `month_lines::block::answer_block` meets its contract. Assumes nothing.
+-- `blocks::answer_block` meets its contract. Assumes nothing.
 use mathlib.Core.Path.{sym}
 use Prim.Native.Nat.{_≤_}
 use native.Mathlib.Omega.{arith}
@@ -6,9 +6,9 @@ use borrow.Author.Needs.{needs}
 use denote.Ref.{now}
 use lib.ListN.{length}
 use lib.Seq.{length-take-le}
-use Rattle.month_lines.proofs.Kept.{answered}
-use Rattle.month_lines.proofs.block.answer_block.Statement.{statement}
-use Rattle.month_lines.proofs.block.answer_block.Tie as tie
+use Rattle.blocks.proofs.Kept.{answered}
+use Rattle.blocks.proofs.answer_block.Statement.{statement}
+use Rattle.blocks.proofs.answer_block.Tie as tie
 
 -- the whole lines lie in the block, and the block in the buffer
 in-block : (c : tie.After-whole-lines) → c .whole-lines .result ≤ c .before .before .before .before .args .have

@@ -1,4 +1,4 @@
--- `month_lines::block::answer_lines` meets its contract. Assumes nothing.
+-- `blocks::answer_lines` meets its contract. Assumes nothing.
 use mathlib.Core.Path.{_≡_, _∙_, sym, ap}
 use Prim.Native.Nat.{ℕ}
 use native.Mathlib.Omega.{arith}
@@ -11,8 +11,8 @@ use Rattle.measure.specs.Epoch.{shoushi}
 use Rattle.measure.proofs.Row.{written, over-least}
 use Rattle.lines.specs.Line.{output}
 use Rattle.lines.proofs.LineLaws.{answered-whole}
-use Rattle.month_lines.proofs.block.answer_lines.Statement.{statement}
-use Rattle.month_lines.proofs.block.answer_lines.Tie as tie
+use Rattle.blocks.proofs.answer_lines.Statement.{statement}
+use Rattle.blocks.proofs.answer_lines.Tie as tie
 
 replies-requires : tie.Need-replies-requires
 replies-requires c κs = search needs

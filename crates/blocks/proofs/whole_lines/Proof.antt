@@ -1,4 +1,4 @@
--- `month_lines::block::whole_lines` meets its contract. Assumes nothing.
+-- `blocks::whole_lines` meets its contract. Assumes nothing.
 use mathlib.Core.Path.{_≡_, _∙_, sym, ap}
 use Prim.Native.Nat.{ℕ, suc, _+_, _-_, _≤_}
 use native.Mathlib.Omega.{arith}
@@ -8,8 +8,8 @@ use lib.ListN.{length, drop, length-drop}
 use lib.Seq.{drop-length}
 use Rattle.day_lines.specs.DayLine.{lineLength}
 use Rattle.day_lines.proofs.LineLaws.{length-step}
-use Rattle.month_lines.proofs.block.whole_lines.Statement.{statement}
-use Rattle.month_lines.proofs.block.whole_lines.Tie as tie
+use Rattle.blocks.proofs.whole_lines.Statement.{statement}
+use Rattle.blocks.proofs.whole_lines.Tie as tie
 
 abbrev Inv-loop : tie.InvT-loop
 Inv-loop block n₀ n = (n ≤ length block) × (lineLength (drop n block) ≡ length (drop n block))

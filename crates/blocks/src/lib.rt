@@ -6,7 +6,7 @@ ghost use Prim.Native.Nat.{_+_, _*_, _≤_, min};
 ghost use lib.ListN.{length, take, drop};
 ghost use Rattle.measure.specs.Epoch.{shoushi};
 ghost use Rattle.lines.specs.Line.{output, replyRoom};
-ghost use Rattle.month_lines.specs.Block.{enough, Whole, Answered};
+ghost use Rattle.blocks.specs.Block.{enough, Whole, Answered};
 
 // A line of six bytes is refused, whatever follows.
 const ENOUGH: usize = 6;

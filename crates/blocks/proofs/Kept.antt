@@ -10,8 +10,8 @@ use lib.Seq.{take-all, take-take, take-add, drop-at, length-take-le}
 use Rattle.measure.specs.Epoch.{shoushi}
 use Rattle.measure.proofs.Choice.{lt-or-ge}
 use Rattle.lines.specs.Line.{output}
-use Rattle.month_lines.specs.Block.{enough, Whole, Answered}
-use Rattle.month_lines.proofs.BlockLaws.{six-bytes, whole-lines}
+use Rattle.blocks.specs.Block.{enough, Whole, Answered}
+use Rattle.blocks.proofs.BlockLaws.{six-bytes, whole-lines}
 
 take-least : (m n : ℕ) (l : List ℕ) → take m (take n l) ≡ take (min n m) l
 take-least m n l =

@@ -1,4 +1,4 @@
--- `month_lines::block::shift` meets its contract. Assumes nothing.
+-- `blocks::shift` meets its contract. Assumes nothing.
 use mathlib.Core.Path.{_≡_, _∙_, refl, sym, ap}
 use mathlib.Core.List.{List, [], _∷_, _++_}
 use Prim.Native.Nat.{ℕ, _+_, _-_, _≤_, _<_}
@@ -7,8 +7,8 @@ use native.Mathlib.Omega.{arith}
 use denote.Ref.{now}
 use lib.ListN.{length, getD, take, drop, length-set, length-drop}
 use lib.Seq.{take-suc, take-suc-set, drop-set-lt, drop-drop, getD-drop}
-use Rattle.month_lines.proofs.block.shift.Statement.{statement}
-use Rattle.month_lines.proofs.block.shift.Tie as tie
+use Rattle.blocks.proofs.shift.Statement.{statement}
+use Rattle.blocks.proofs.shift.Tie as tie
 
 abbrev Inv-loop : tie.InvT-loop
 Inv-loop buf₀ at k i₀ buf i = (i ≤ k) × (length buf ≡ length buf₀) × (take i buf ≡ take i (drop at buf₀)) × (drop i buf ≡ drop i buf₀)

@@ -17,7 +17,7 @@ use Rattle.measure.proofs.Choice.{lt-or-ge}
 use Rattle.day_lines.specs.DayLine.{lineEnd, lineLength, dayAsked}
 use Rattle.lines.specs.Line.{lineReply, lineOf, lastLine, outputFrom, output}
 use Rattle.lines.proofs.LineLaws.{bad-line}
-use Rattle.month_lines.specs.Block.{enough}
+use Rattle.blocks.specs.Block.{enough}
 
 long : (e : Epoch) (line : List ℕ) → 5 < length line → lineReply e line ≡ refused badLine
 unfolding dayAsked
