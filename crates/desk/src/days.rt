@@ -1,5 +1,5 @@
 // The questions on a day: its name, its hours, the extra and the vanishing day.
-use crate::dates;
+use crate::on_months;
 use crate::reply::Reply;
 use crate::reply::malformed;
 use words::Numbers;
@@ -18,7 +18,7 @@ pub fn answer(word: &[u8], rest: &[u8]) -> Reply {
     if check::same(word, b"vanishing") {
         return vanishing(rest);
     }
-    dates::answer(word, rest)
+    on_months::answer(word, rest)
 }
 
 fn name(rest: &[u8]) -> Reply {

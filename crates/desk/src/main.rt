@@ -2,11 +2,11 @@
 // standard input.
 mod ask;
 mod constants;
-mod dates;
 mod days;
 mod directs;
 mod input;
 mod lunations;
+mod on_months;
 mod record;
 mod reply;
 mod times;

@@ -18,7 +18,7 @@ use Rattle.month_law.proofs.Edition.{shoushi-lawful}
 use Rattle.months.specs.Month.{ordinary, leap, MonthOfDay, earliest, latest, kindAt, placed, monthOfDay, numberIn, markIn}
 use Rattle.lists.specs.Records.{recordAt}
 use Rattle.months.proofs.Reach.{month-held}
-use Rattle.months.proofs.RoundTrip.{day-dated, day-admitted}
+use Rattle.months.proofs.Dated.{day-dated, day-admitted}
 
 abbrev c : Calendar
 c = calendar shoushi

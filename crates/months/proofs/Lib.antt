@@ -1,6 +1,5 @@
 pub mod Spans
 pub mod Reach
 pub mod ByTerm
-pub mod Back
-pub mod RoundTrip
+pub mod Dated
 pub mod Unique

@@ -12,8 +12,6 @@ use Rattle.months.proofs.head.Kinds as head
 use Rattle.months.proofs.head.Reads as head-reads
 use Rattle.months.proofs.month_of.Kinds as month-of
 use Rattle.months.proofs.month_of.Reads as month-of-reads
-use Rattle.months.proofs.day_at.Kinds as day-at
-use Rattle.months.proofs.day_at.Reads as day-at-reads
 use Rattle.months.proofs.number_in.Kinds as number-in
 use Rattle.months.proofs.number_in.Reads as number-in-reads
 use Rattle.months.proofs.leap_mark.Kinds as leap-mark
@@ -21,9 +19,6 @@ use Rattle.months.proofs.leap_mark.Reads as leap-mark-reads
 
 pub head-unique : OneReply head.ps head.r head-reads.Post
 head-unique κs a x y s t p q = one-answer x y _ p q
-
-pub day-at-unique : OneReply day-at.ps day-at.r day-at-reads.Post
-day-at-unique κs a x y s t p q = one-answer x y _ p q
 
 kindMeant : Kind → KindCase
 kindMeant (ordinary n) = Ordinary n

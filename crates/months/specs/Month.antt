@@ -1,12 +1,10 @@
--- "A reply about a day", and the way back.
+-- "A reply about a day".
 -- Assumes nothing.
-use mathlib.Core.Bool.{Bool, false, _&&_}
 use Prim.Native.Nat.{ℕ, _+_, _-_}
-use Rattle.measure.specs.Choice.{if_then_else_, _≤?_, _<?_, _=?_}
-use Rattle.measure.specs.Reply.{Reply, answer, refused, noYear, outside, noDay, refuseIf}
-use Rattle.measure.specs.Units.{lastYear}
+use Rattle.measure.specs.Choice.{if_then_else_, _<?_}
+use Rattle.measure.specs.Reply.{Reply, answer, refused, noDay, refuseIf}
 use Rattle.measure.specs.Epoch.{Epoch}
-use Rattle.month_law.specs.Calendar.{Calendar, lengthOf, monthOf, head, monthsIn, yearOf, leapAt, numberAt}
+use Rattle.month_law.specs.Calendar.{Calendar, lengthOf, monthOf, head, yearOf, leapAt, numberAt}
 use Rattle.month_law.specs.Edition.{calendar}
 use Rattle.months.specs.declared.Kind.{Kind as KindCase}
 use Rattle.months.specs.declared.Kind.the-variants.{Ordinary, Leap}
@@ -58,27 +56,8 @@ module _ (c : Calendar) where
       let n = yearOf c l in
       placed d l n (l - head c n)
 
-  -- day m of the month at place p of year n
-  unfoldable pub dayAt : ℕ → ℕ → ℕ → ℕ
-  dayAt n p m = c .first (head c n + p) + (m - 1)
-
 unfoldable pub dayReply : Epoch → ℕ → Reply MonthOfDay
 dayReply e d = refuseIf (d <? earliest) noDay (refuseIf (latest <? d) noDay (answer (monthOfDay (calendar e) d)))
-
--- a place that the year's own list lacks is outside, and so is a day that the month lacks
-unfoldable pub backReply : Epoch → ℕ → ℕ → ℕ → Reply ℕ
-backReply e n p m =
-    let c = calendar e in
-    refuseIf (lastYear <? n) noYear
-    (refuseIf (monthsIn c n ≤? p) outside
-    (refuseIf (m =? 0) outside
-    (refuseIf (lengthOf c (head c n + p) <? m) outside
-    (answer (dayAt c n p m)))))
-
--- whether a reply about a day gives it a year, a place and a day of the month
-abbrev pub hasDate : Reply MonthOfDay → ℕ → ℕ → ℕ → Bool
-hasDate (answer x) n p m = (x .year =? n) && (x .place =? p) && (x .day =? m)
-hasDate (refused k) n p m = false
 
 -- the paper's month and reply that each case stands for
 abbrev pub kindSaid : KindCase → Kind

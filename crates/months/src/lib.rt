@@ -1,11 +1,10 @@
-// The head of a year, a day's month and the way back.
+// The head of a year and a day's month.
 use measure::Answer;
 use measure::DAY;
 use measure::LAST_YEAR;
 use measure::MONTH;
 use measure::NO_DAY;
 use measure::NO_YEAR;
-use measure::OUTSIDE;
 use measure::SOLSTICE_EPOCH;
 use measure::TERM_STEP;
 use moons::MEAN_START;
@@ -19,7 +18,7 @@ ghost use Rattle.moons.specs.TrueMoon.{firstDay};
 ghost use Rattle.month_law.specs.Calendar.{monthOf, head};
 ghost use Rattle.month_law.specs.Edition.{middleDay, calendar};
 ghost use Rattle.months.specs.Head.{headReply};
-ghost use Rattle.months.specs.Month.{earliest, latest, monthOfDay, dayReply, backReply, hasDate, kindSaid, numberIn, markIn, monthSaid, replySaid};
+ghost use Rattle.months.specs.Month.{earliest, latest, monthOfDay, dayReply, kindSaid, numberIn, markIn, monthSaid, replySaid};
 ghost use Rattle.months.specs.Span.{spanOf, kindBy, LastBefore};
 
 // A month is ordinary or leap, with its number inside.
@@ -47,10 +46,6 @@ const EARLIEST: u64 = 35;
 
 const LATEST: u64 = 365_268;
 
-const MOST_MONTHS: u64 = 13;
-
-const MOST_DAYS: u64 = 30;
-
 // The lunation that heads year n. A year past the last is refused with 1.
 pub fn head(n: u64) -> Answer
     ensures { λ r. ⌜ answerSaid r ≡ headReply shoushi n ⌝ }
@@ -72,47 +67,6 @@ pub fn month_of(d: u64) -> Reply
         return Reply::Refused(NO_DAY);
     }
     Reply::Month(month_in(span_of(d), d))
-}
-
-// The way back: the running day of day m of the month at place p of year n. After the year, a place that its list does not have, or a
-// day that the month does not have, is refused with 2. The day that these would give must be found again under them.
-pub fn day_at(n: u64, p: u64, m: u64) -> Answer
-    ensures { λ r. ⌜ answerSaid r ≡ backReply shoushi n p m ⌝ }
-{
-    if LAST_YEAR < n {
-        return Answer::Refused(NO_YEAR);
-    }
-    if MOST_MONTHS <= p {
-        return Answer::Refused(OUTSIDE);
-    }
-    if m == 0 {
-        return Answer::Refused(OUTSIDE);
-    }
-    if MOST_DAYS < m {
-        return Answer::Refused(OUTSIDE);
-    }
-    let d = first_day(head_of(n) + p) + (m - 1);
-    if has_date(month_of(d), n, p, m) {
-        Answer::Number(d)
-    } else {
-        Answer::Refused(OUTSIDE)
-    }
-}
-
-// Whether a reply about a day gives it this year, place and day of the month.
-fn has_date(reply: Reply, n: u64, p: u64, m: u64) -> bool
-    ensures { λ r. ⌜ r ≡ hasDate (replySaid reply) n p m ⌝ }
-{
-    let Reply::Month(month) = reply else {
-        return false;
-    };
-    if month.year != n {
-        return false;
-    }
-    if month.place != p {
-        return false;
-    }
-    month.day == m
 }
 
 // A month by its lunation, with its first day and that of the next.
@@ -178,7 +132,8 @@ pub fn last_term(next: u64) -> u64
     (next * DAY - 1 - SOLSTICE_EPOCH) / MIDDLE_STEP
 }
 
-fn head_of(n: u64) -> u64
+// The lunation that heads year n.
+pub fn head_of(n: u64) -> u64
     requires { ⌜ n ≤ suc lastYear ⌝ }
     ensures { λ r. ⌜ r ≡ head (calendar shoushi) n ⌝ }
 {

@@ -1,15 +1,16 @@
--- `months::has_date` meets its contract. Assumes nothing.
+-- `dates::has_date` meets its contract. Assumes nothing.
 use mathlib.Core.Path.{_≡_}
 use Prim.Native.Nat.{ℕ}
 use borrow.Author.Needs.{needs}
 use borrow.Author.Tests.{eq-eqb, ne-eqb}
 use Rattle.measure.specs.Choice.{_=?_}
-use Rattle.months.specs.Month.{hasDate, replySaid}
+use Rattle.months.specs.Month.{replySaid}
+use Rattle.dates.specs.Date.{hasDate}
 use Rattle.months.specs.declared.Month.{Month}
 use Rattle.months.specs.declared.Reply.{Reply}
 use Rattle.months.specs.declared.Reply.the-variants.{Month as InMonth}
-use Rattle.months.proofs.has_date.Statement.{statement}
-use Rattle.months.proofs.has_date.Tie as tie
+use Rattle.dates.proofs.has_date.Statement.{statement}
+use Rattle.dates.proofs.has_date.Tie as tie
 
 -- where year and place are equal the day decides
 last-test : (r : Reply) (x : Month) (n p m : ℕ) → r ≡ InMonth x → x .year ≡ n → x .place ≡ p

@@ -18,7 +18,8 @@ use Rattle.month_law.specs.Edition.{calendar}
 use Rattle.month_law.proofs.Days.{dateOf, dated, date-back}
 use Rattle.month_law.proofs.Edition.{figures, shoushi-lawful}
 use Rattle.month_law.proofs.Demand.{demand}
-use Rattle.months.specs.Month.{MonthOfDay, earliest, latest, placed, monthOfDay, dayAt, dayReply, backReply, hasDate}
+use Rattle.months.specs.Month.{MonthOfDay, earliest, latest, placed, monthOfDay, dayReply}
+use Rattle.dates.specs.Date.{dayAt, backReply, hasDate}
 
 abbrev c : Calendar
 c = calendar shoushi

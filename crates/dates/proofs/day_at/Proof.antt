@@ -1,4 +1,4 @@
--- `months::day_at` meets its contract: the day is answered just where its date is one of the lists'.
+-- `dates::day_at` meets its contract: the day is answered just where its date is one of the lists'.
 -- Assumes nothing.
 use mathlib.Core.Bool.{true, false, false≢true}
 use mathlib.Core.Path.{_≡_, _∙_, ap, sym, subst}
@@ -16,12 +16,13 @@ use Rattle.month_law.specs.Demand.{Dated}
 use Rattle.month_law.specs.Edition.{calendar}
 use Rattle.month_law.proofs.Lists.{months-in-most}
 use Rattle.month_law.proofs.Edition.{shoushi-lawful}
-use Rattle.months.specs.Month.{MonthOfDay, dayReply, backReply, hasDate, replySaid}
+use Rattle.months.specs.Month.{MonthOfDay, dayReply, replySaid}
 use Rattle.months.specs.declared.Reply.{Reply}
 use Rattle.months.proofs.Reach.{place-most, first-most}
-use Rattle.months.proofs.Back.{date, dayOfDate, back-answered, back-refused, date-given, given-date}
-use Rattle.months.proofs.day_at.Statement.{statement}
-use Rattle.months.proofs.day_at.Tie as tie
+use Rattle.dates.specs.Date.{backReply, hasDate}
+use Rattle.dates.proofs.Back.{date, dayOfDate, back-answered, back-refused, date-given, given-date}
+use Rattle.dates.proofs.day_at.Statement.{statement}
+use Rattle.dates.proofs.day_at.Tie as tie
 
 returns : tie.Need-returns
 unfolding backReply

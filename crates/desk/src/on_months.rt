@@ -46,7 +46,7 @@ fn back(rest: &[u8]) -> Reply {
     let Numbers::Three(n, p, m) = words::numbers_in(rest) else {
         return malformed();
     };
-    number_of(months::day_at(n, p, m))
+    number_of(dates::day_at(n, p, m))
 }
 
 fn year(rest: &[u8]) -> Reply {

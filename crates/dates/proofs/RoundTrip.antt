@@ -10,27 +10,16 @@ use Rattle.measure.specs.Reply.{Reply, answer, refused, outside}
 use Rattle.measure.specs.Units.{lastYear}
 use Rattle.measure.specs.Epoch.{shoushi}
 use Rattle.month_law.specs.Calendar.{Calendar}
-use Rattle.month_law.specs.Demand.{Date, Dated}
+use Rattle.month_law.specs.Demand.{Dated}
 use Rattle.month_law.specs.Edition.{calendar}
-use Rattle.month_law.proofs.Days.{dateOf, dated, date-unique}
-use Rattle.month_law.proofs.Edition.{figures, shoushi-lawful}
-use Rattle.month_law.proofs.Demand.{demand}
-use Rattle.months.specs.Month.{earliest, latest, placed, monthOfDay, dayReply, backReply, hasDate}
-use Rattle.months.proofs.Back.{date, dayOfDate, listed-or-not, back-answered, back-refused, date-given}
+use Rattle.month_law.proofs.Days.{dateOf}
+use Rattle.months.specs.Month.{earliest, latest, placed, monthOfDay, dayReply}
+use Rattle.months.proofs.Dated.{day-dated, day-admitted}
+use Rattle.dates.specs.Date.{backReply, hasDate}
+use Rattle.dates.proofs.Back.{date, dayOfDate, listed-or-not, back-answered, back-refused, date-given}
 
 abbrev c : Calendar
 c = calendar shoushi
-
--- the date that the day question gives is one of the lists'
-pub day-dated : (d : ℕ) → earliest ≤ d → d ≤ latest → Dated c d (dateOf c d)
-day-dated d h k = dated c shoushi-lawful d (omega (arith, figures))
-
--- in an admitted year
-pub day-admitted : (d : ℕ) → earliest ≤ d → d ≤ latest → dateOf c d .year ≤ lastYear
-day-admitted d h k =
-    let one = demand .dates d h k in
-    let same : dateOf c d ≡ one .it = date-unique c shoushi-lawful d (dateOf c d) (one .it) (day-dated d h k) (one .such .1) in
-    omega (arith, one .such .0, ap (λ (t : Date). t .year) same)
 
 pub day-there-and-back : (d : ℕ) → earliest ≤ d → d ≤ latest
     → backReply shoushi (monthOfDay c d .year) (monthOfDay c d .place) (monthOfDay c d .day) ≡ answer d
