@@ -1,7 +1,8 @@
 // The parts of a line of text, and the decimal numbers among them.
 ghost use mathlib.Core.Path.{_≡_};
 ghost use Rattle.words.specs.Number.{numberOf};
-ghost use Rattle.words.specs.Numbers.{partOf, restOf, numbersOf};
+ghost use Rattle.words.specs.Numbers.{partOf, restOf, first, second, third, numbersOf};
+ghost use Rattle.words.specs.declared.Number.the-variants.{Value};
 
 pub enum Number {
     Value(u64),
@@ -57,22 +58,38 @@ pub fn numbers_in(s: &[u8]) -> Numbers
     let Number::Value(a) = number_in(part_in(s)) else {
         return Numbers::Other;
     };
-    let t = rest_in(s);
+    after_one(a, rest_in(s))
+}
+
+// The numbers, where one is read and t is left.
+fn after_one(a: u64, t: &[u8]) -> Numbers
+    ensures { λ r. ⌜ r ≡ first (Value a) (now (t .entry)) ⌝ }
+{
     if t.len() == 0 {
         return Numbers::One(a);
     }
     let Number::Value(b) = number_in(part_in(t)) else {
         return Numbers::Other;
     };
-    let u = rest_in(t);
-    if u.len() == 0 {
+    after_two(a, b, rest_in(t))
+}
+
+fn after_two(a: u64, b: u64, t: &[u8]) -> Numbers
+    ensures { λ r. ⌜ r ≡ second a (Value b) (now (t .entry)) ⌝ }
+{
+    if t.len() == 0 {
         return Numbers::Two(a, b);
     }
-    let Number::Value(c) = number_in(part_in(u)) else {
+    let Number::Value(c) = number_in(part_in(t)) else {
         return Numbers::Other;
     };
-    let v = rest_in(u);
-    if v.len() == 0 {
+    after_three(a, b, c, rest_in(t))
+}
+
+fn after_three(a: u64, b: u64, c: u64, t: &[u8]) -> Numbers
+    ensures { λ r. ⌜ r ≡ third a b (Value c) (now (t .entry)) ⌝ }
+{
+    if t.len() == 0 {
         return Numbers::Three(a, b, c);
     }
     Numbers::Other
