@@ -1,14 +1,38 @@
-// The lines: from the arguments, or from standard input by blocks, through buffers of a fixed size.
+// The lines: from the arguments, or from standard input by blocks. Each is answered as it ends.
+use libc::STDIN_FILENO;
+use libc::STDOUT_FILENO;
+use measure::Answer;
+ghost use mathlib.Core.Path.{_≡_};
 ghost use Prim.Native.Nat.{_≤_};
-ghost use lib.ListN.{length};
-use crate::ask::ask;
-use crate::reply;
-use crate::write;
+ghost use lib.ListN.{length, take};
+ghost use Rattle.measure.specs.Epoch.{shoushi};
+ghost use Rattle.questions.specs.Question.{replyTo};
+ghost use Rattle.replies.specs.ReplyText.{replyText, yearsRoom};
 
 // How many bytes of a line that was begun are kept, and whether to go on.
 struct Turn {
     kept: usize,
     more: bool,
+}
+
+// The text of the reply to a line, from the buffer's start; how many bytes it has.
+fn answered(line: &[u8], buf: &mut [u8]) -> usize
+    requires { ⌜ yearsRoom ≤ length (now buf) ⌝ }
+    ensures { λ r. ⌜ r ≤ length (now (buf .entry)) ⌝ }
+    ensures { λ r. ⌜ take r (now (buf .exit)) ≡ replyText (replyTo shoushi (now (line .entry))) ⌝ }
+{
+    let Answer::Number(n) = replies::write_reply(questions::ask(line), buf) else {
+        return 0;
+    };
+    n as usize
+}
+
+// Answers a line; whether the reply was written out.
+fn answer_line(line: &[u8], buf: &mut [u8]) -> bool
+    requires { ⌜ yearsRoom ≤ length (now buf) ⌝ }
+{
+    let n = answered(line, buf);
+    io::write_all(STDOUT_FILENO, &buf[..n])
 }
 
 // One byte more of a line; how many are kept then. A full buffer drops the byte: a line so long is refused.
@@ -23,48 +47,38 @@ fn keep(line: &mut [u8], kept: usize, b: u8) -> usize
     kept
 }
 
-// Answers the lines that end in a block, and keeps what it has of the next.
+// Answers the lines that end in a block, and keeps what it has of the next. A failed write ends it.
 fn answer_block(block: &[u8], line: &mut [u8], kept: usize, buf: &mut [u8]) -> Turn
-    requires { ⌜ kept ≤ length (now line) ⌝ }
+    requires { ⌜ (kept ≤ length (now line)) × (yearsRoom ≤ length (now buf)) ⌝ }
     ensures { λ r. ⌜ r .kept ≤ length (now (line .entry)) ⌝ }
 {
     let mut n = kept;
-    let mut o = write::start();
+    let mut more = true;
     let mut i: usize = 0;
-    while i < block.len() {
+    while i < block.len() && more {
         let b = block[i];
         if b == b'\n' {
-            o = reply::put(buf, o, ask(&line[0..n]));
+            more = answer_line(&line[0..n], buf);
             n = 0;
         } else {
             n = keep(line, n, b);
         }
         i += 1;
     }
-    let done = write::flush(buf, o);
-    Turn {
-        kept: n,
-        more: done.ok,
-    }
-}
-
-// Answers one line, and writes the reply out.
-fn answer_line(line: &[u8], buf: &mut [u8]) {
-    let o = reply::put(buf, write::start(), ask(line));
-    write::flush(buf, o);
+    Turn { kept: n, more }
 }
 
 // Reads once; how many bytes came.
 fn fill(block: &mut [u8]) -> usize
     ensures { λ r. ⌜ r ≤ length (now (block .entry)) ⌝ }
 {
-    let got = libc::read(0, block);
+    let got = libc::read(STDIN_FILENO, block);
     io::count(got, block)
 }
 
 // A block is read and answered. Where the input ends, a line that was begun ends too.
 fn answer_some(block: &mut [u8], line: &mut [u8], kept: usize, buf: &mut [u8]) -> Turn
-    requires { ⌜ kept ≤ length (now line) ⌝ }
+    requires { ⌜ (kept ≤ length (now line)) × (yearsRoom ≤ length (now buf)) ⌝ }
     ensures { λ r. ⌜ r .kept ≤ length (now (line .entry)) ⌝ }
 {
     let n = fill(block);
@@ -81,7 +95,9 @@ fn answer_some(block: &mut [u8], line: &mut [u8], kept: usize, buf: &mut [u8]) -
 }
 
 // Nothing says that the input ends, so the turns are counted down from a number that no run uses up.
-pub fn answer_lines(line: &mut [u8], buf: &mut [u8]) {
+pub fn answer_lines(line: &mut [u8], buf: &mut [u8])
+    requires { ⌜ yearsRoom ≤ length (now buf) ⌝ }
+{
     let mut block = io::large_buffer();
     let mut kept: usize = 0;
     let mut turns = u64::MAX;
@@ -134,7 +150,9 @@ fn join_arguments(line: &mut [u8]) -> usize
     n
 }
 
-pub fn answer_arguments(line: &mut [u8], buf: &mut [u8]) {
+pub fn answer_arguments(line: &mut [u8], buf: &mut [u8])
+    requires { ⌜ yearsRoom ≤ length (now buf) ⌝ }
+{
     let n = join_arguments(line);
     answer_line(&line[0..n], buf);
 }

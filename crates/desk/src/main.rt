@@ -1,17 +1,8 @@
 // The desk: answers the calendar's questions, from its arguments when it has any, else one a line from
 // standard input.
-mod ask;
-mod constants;
-mod days;
-mod directs;
 mod input;
-mod lunations;
-mod on_months;
-mod record;
-mod reply;
-mod times;
-mod write;
 
+use replies::YEARS_ROOM;
 ghost use mathlib.Core.Path.{_≡_};
 ghost use lib.ListN.{length};
 
@@ -22,9 +13,16 @@ fn line_buffer() -> [u8; 256]
     [0; 256]
 }
 
+// Room for the longest reply.
+fn reply_buffer() -> [u8; YEARS_ROOM]
+    ensures { λ r. ⌜ 2_097_152 ≡ length r ⌝ }
+{
+    [0; YEARS_ROOM]
+}
+
 fn main() {
     let mut line = line_buffer();
-    let mut buf = io::large_buffer();
+    let mut buf = reply_buffer();
     if os::arg_count() > 1 {
         input::answer_arguments(&mut line, &mut buf);
     } else {

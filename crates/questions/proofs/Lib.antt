@@ -1,0 +1,4 @@
+pub mod Examples
+pub mod Line
+pub mod Same
+pub mod Unique

@@ -1,0 +1,23 @@
+-- A text by its bytes, and the test of a word.
+-- Assumes nothing.
+use Prim.Native.Nat.{ℕ}
+use Prim.Native.Char.{code}
+use Prim.Native.String.{String, [] as done, _∷_ as _then_}
+use mathlib.Core.List.{List, [], _∷_}
+use mathlib.Core.Bool.{Bool, true, false, _&&_}
+use lib.Dec.{eqb}
+
+-- the bytes of a text that is ASCII throughout
+abbrev pub bytesOf : String → List ℕ
+bytesOf done = []
+bytesOf (c then s) = code c ∷ bytesOf s
+
+unfoldable pub same : List ℕ → List ℕ → Bool
+same [] [] = true
+same [] (y ∷ ys) = false
+same (x ∷ xs) [] = false
+same (x ∷ xs) (y ∷ ys) = eqb x y && same xs ys
+
+infix 40 _is_
+abbrev pub _is_ : List ℕ → String → Bool
+word is text = same word (bytesOf text)

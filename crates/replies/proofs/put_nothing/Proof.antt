@@ -1,0 +1,27 @@
+-- `replies::put_nothing` meets its contract. Assumes nothing.
+use borrow.Author.Needs.{needs}
+use Rattle.texts.specs.Text.{piece, taken, filled}
+use Rattle.replies.specs.ReplyText.{replyText}
+use Rattle.replies.proofs.put_nothing.Statement.{statement}
+use Rattle.replies.proofs.put_nothing.Tie as tie
+
+slice-aggregate-fill : tie.Need-slice-aggregate-fill
+slice-aggregate-fill c = search needs
+
+slice-aggregate-fill-2 : tie.Need-slice-aggregate-fill-2
+slice-aggregate-fill-2 c = search needs
+
+fill-requires : tie.Need-fill-requires
+fill-requires c κs = search needs
+
+same-length : tie.Need-same-length
+same-length c = search needs
+
+returns : tie.Need-returns
+unfolding replyText filled piece taken
+returns c = c .before .before .fill .ensures
+
+pub put-nothing-spec : {M : Type 1} → statement M
+put-nothing-spec =
+    tie.close
+    (tie.spec slice-aggregate-fill slice-aggregate-fill-2 fill-requires same-length returns)

@@ -1,0 +1,188 @@
+// The line of text that is written for each reply.
+mod rows;
+
+use measure::Answer;
+use measure::SHORT_ROW;
+use months::Month;
+use questions::Reply;
+use texts::fill;
+ghost use mathlib.Core.Path.{_≡_};
+ghost use mathlib.Core.List.{[], _∷_};
+ghost use Prim.Native.Nat.{_≤_};
+ghost use lib.ListN.{length};
+ghost use Rattle.measure.specs.Reply.{answerSaid};
+ghost use Rattle.measure.specs.Row.{over, rowAfter};
+ghost use Rattle.months.specs.Month.{monthSaid};
+ghost use Rattle.questions.specs.Told.{nothing, toldIn};
+ghost use Rattle.replies.specs.ReplyText.{refusalText, numbersText, signedText, monthText, momentText, constantsText, helpText, replyText, lineRoom, roomOf, replyReply};
+
+// Room for one line, and for the records of all years.
+pub const LINE_ROOM: usize = 16_384;
+
+pub const YEARS_ROOM: usize = 2_097_152;
+
+// The room that a reply asks for.
+pub fn room_for(r: Reply) -> usize
+    ensures { λ n. ⌜ n ≡ roomOf (toldIn r) ⌝ }
+{
+    match r {
+        Reply::Years(_, _) => YEARS_ROOM,
+        _ => LINE_ROOM,
+    }
+}
+
+// A reply's line, from the row's start; how many bytes it has. A row without the room that it asks for is refused with 4.
+pub fn write_reply(r: Reply, row: &mut [u8]) -> Answer
+    ensures { λ a. ⌜ answerSaid a ≡ replyReply (toldIn r) (length (now (row .entry))) ⌝ }
+    ensures { λ _. ⌜ now (row .exit) ≡ rowAfter (replyReply (toldIn r) (length (now (row .entry)))) (replyText (toldIn r)) (now (row .entry)) ⌝ }
+{
+    if row.len() < room_for(r) {
+        return Answer::Refused(SHORT_ROW);
+    }
+    Answer::Number(put_reply(r, row) as u64)
+}
+
+fn put_reply(r: Reply, row: &mut [u8]) -> usize
+    requires { ⌜ roomOf (toldIn r) ≤ length (now row) ⌝ }
+    ensures { λ n. ⌜ n ≡ length (replyText (toldIn r)) ⌝ }
+    ensures { λ _. ⌜ now (row .exit) ≡ over (replyText (toldIn r)) (now (row .entry)) ⌝ }
+{
+    match r {
+        Reply::Refused(k) => put_refusal(k, row),
+        Reply::Nothing => put_nothing(row),
+        Reply::One(a) => put_one(a, row),
+        Reply::Two(a, b) => put_two(a, b, row),
+        Reply::Three(a, b, c) => put_three(a, b, c, row),
+        Reply::Signed(z) => put_signed(z, row),
+        Reply::Month(m) => put_month(m, row),
+        Reply::Moment(t) => put_moment(t, row),
+        Reply::Terms(n) => rows::put_terms(n, row),
+        Reply::Year(n) => rows::put_year(n, row),
+        Reply::Years(n, k) => rows::put_years(n, k, row),
+        Reply::Constants => put_constants(row),
+        Reply::Help => put_help(row),
+    }
+}
+
+fn put_refusal(k: u64, row: &mut [u8]) -> usize
+    requires { ⌜ lineRoom ≤ length (now row) ⌝ }
+    ensures { λ n. ⌜ n ≡ length (refusalText k) ⌝ }
+    ensures { λ _. ⌜ now (row .exit) ≡ over (refusalText k) (now (row .entry)) ⌝ }
+{
+    fill(b"refused %\n", &[k], row)
+}
+
+fn put_nothing(row: &mut [u8]) -> usize
+    requires { ⌜ lineRoom ≤ length (now row) ⌝ }
+    ensures { λ n. ⌜ n ≡ length (replyText nothing) ⌝ }
+    ensures { λ _. ⌜ now (row .exit) ≡ over (replyText nothing) (now (row .entry)) ⌝ }
+{
+    fill(b"none\n", &[], row)
+}
+
+fn put_one(a: u64, row: &mut [u8]) -> usize
+    requires { ⌜ lineRoom ≤ length (now row) ⌝ }
+    ensures { λ n. ⌜ n ≡ length (numbersText (a ∷ [])) ⌝ }
+    ensures { λ _. ⌜ now (row .exit) ≡ over (numbersText (a ∷ [])) (now (row .entry)) ⌝ }
+{
+    fill(b"%\n", &[a], row)
+}
+
+fn put_two(a: u64, b: u64, row: &mut [u8]) -> usize
+    requires { ⌜ lineRoom ≤ length (now row) ⌝ }
+    ensures { λ n. ⌜ n ≡ length (numbersText (a ∷ b ∷ [])) ⌝ }
+    ensures { λ _. ⌜ now (row .exit) ≡ over (numbersText (a ∷ b ∷ [])) (now (row .entry)) ⌝ }
+{
+    fill(b"% %\n", &[a, b], row)
+}
+
+fn put_three(a: u64, b: u64, c: u64, row: &mut [u8]) -> usize
+    requires { ⌜ lineRoom ≤ length (now row) ⌝ }
+    ensures { λ n. ⌜ n ≡ length (numbersText (a ∷ b ∷ c ∷ [])) ⌝ }
+    ensures { λ _. ⌜ now (row .exit) ≡ over (numbersText (a ∷ b ∷ c ∷ [])) (now (row .entry)) ⌝ }
+{
+    fill(b"% % %\n", &[a, b, c], row)
+}
+
+// A negative number has a sign before its magnitude.
+fn put_signed(z: i64, row: &mut [u8]) -> usize
+    requires { ⌜ lineRoom ≤ length (now row) ⌝ }
+    ensures { λ n. ⌜ n ≡ length (signedText z) ⌝ }
+    ensures { λ _. ⌜ now (row .exit) ≡ over (signedText z) (now (row .entry)) ⌝ }
+{
+    let magnitude = inequality::magnitude_of(z);
+    if z < 0 {
+        fill(b"-%\n", &[magnitude], row)
+    } else {
+        fill(b"%\n", &[magnitude], row)
+    }
+}
+
+// A running time with its day, its remainder and the day's name.
+fn put_moment(t: u64, row: &mut [u8]) -> usize
+    requires { ⌜ lineRoom ≤ length (now row) ⌝ }
+    ensures { λ n. ⌜ n ≡ length (momentText t) ⌝ }
+    ensures { λ _. ⌜ now (row .exit) ≡ over (momentText t) (now (row .entry)) ⌝ }
+{
+    let day = measure::day_of(t);
+    let name = measure::name_of(day);
+    let remainder = measure::remainder_of(t);
+    fill(b"% % % %\n", &[t, day, remainder, name.name], row)
+}
+
+// Year, place and day of the month; first day and length; number and leap mark.
+fn put_month(m: Month, row: &mut [u8]) -> usize
+    requires { ⌜ lineRoom ≤ length (now row) ⌝ }
+    ensures { λ n. ⌜ n ≡ length (monthText (monthSaid m)) ⌝ }
+    ensures { λ _. ⌜ now (row .exit) ≡ over (monthText (monthSaid m)) (now (row .entry)) ⌝ }
+{
+    let kind = m.kind;
+    let number = months::number_in(kind);
+    let mark = months::leap_mark(kind);
+    fill(
+        b"% % % % % % %\n",
+        &[m.year, m.place, m.day, m.first, m.length, number, mark],
+        row,
+    )
+}
+
+fn put_constants(row: &mut [u8]) -> usize
+    requires { ⌜ lineRoom ≤ length (now row) ⌝ }
+    ensures { λ n. ⌜ n ≡ length constantsText ⌝ }
+    ensures { λ _. ⌜ now (row .exit) ≡ over constantsText (now (row .entry)) ⌝ }
+{
+    let values = [
+        measure::DAY,
+        measure::FEN,
+        measure::MIAO,
+        measure::YEAR,
+        measure::HALF_YEAR,
+        measure::MONTH,
+        measure::QUARTER_STEP,
+        measure::TERM_STEP,
+        measure::PENTAD_STEP,
+        measure::EARTH_STEP,
+        measure::ANOMALISTIC_MONTH,
+        measure::ANOMALISTIC_HALF,
+        measure::SOLSTICE_EPOCH,
+        measure::LEAP_EPOCH,
+        measure::ANOMALY_EPOCH,
+    ];
+    fill(
+        b"day=% fen=% miao=% year=% half-year=% month=% quarter=% term=% pentad=% earth=% anomalistic-month=% anomalistic-half=% solstice-epoch=% leap-epoch=% anomaly-epoch=%\n",
+        &values,
+        row,
+    )
+}
+
+fn put_help(row: &mut [u8]) -> usize
+    requires { ⌜ lineRoom ≤ length (now row) ⌝ }
+    ensures { λ n. ⌜ n ≡ length helpText ⌝ }
+    ensures { λ _. ⌜ now (row .exit) ≡ over helpText (now (row .entry)) ⌝ }
+{
+    fill(
+        b"questions: constants, solstice N, term N I, pentad N I P, earth N I, terms N, mean L Q, true L Q, solar L Q, lunar L Q, correction L Q, motion L Q, solar-at fast|slow T, lunar-at quick|tardy T, motion-at quick|tardy K, name D, hour R, extra R, vanishing R, head N, day D, back N P M, year N, years N C, help\n",
+        &[],
+        row,
+    )
+}

@@ -1,0 +1,48 @@
+-- `texts::put_piece` meets its contract. Assumes nothing.
+use mathlib.Core.List.{[], _∷_}
+use mathlib.Core.Path.{_≡_, refl}
+use mathlib.Core.Bool.{true, false}
+use Prim.Native.Nat.{ℕ}
+use native.Mathlib.Omega.{arith}
+use borrow.Author.Needs.{needs}
+use borrow.Author.Tests.{eq-eqb, ne-eqb}
+use denote.Ref.{now}
+use Rattle.measure.specs.Choice.{_=?_}
+use Rattle.measure.specs.Row.{over}
+use Rattle.measure.proofs.Row.{put}
+use Rattle.texts.specs.Text.{hole, piece}
+use Rattle.texts.proofs.put_piece.Statement.{statement}
+use Rattle.texts.proofs.put_piece.Tie as tie
+
+put-number-requires : tie.Need-put-number-requires
+put-number-requires c κs = search needs
+
+same-length : tie.Need-same-length
+same-length c = search needs
+
+returns : tie.Need-returns
+unfolding piece
+returns c =
+    let put = c .before .before in
+    let at = put .before .before in
+    let a = at .before .before .args in
+    let t : (a .b =? hole) ≡ true = eq-eqb (a .b) hole (at .if1 .taken) in
+    (put .put-number .ensures .0, (rw t (put .put-number .ensures .1 .0), rw t (put .put-number .ensures .1 .1)))
+
+slice-write-row : tie.Need-slice-write-row
+slice-write-row c = search needs
+
+same-length-2 : tie.Need-same-length-2
+same-length-2 c = search needs
+
+returns-2 : tie.Need-returns-2
+unfolding piece over
+returns-2 c =
+    let a = c .before .before .args in
+    let t : (a .b =? hole) ≡ false = ne-eqb (a .b) hole (c .if1 .left) in
+    (omega arith, (rw t refl, rw t (put [] (now (a .row)) (now (a .row)) (a .b) 0 refl refl (omega arith))))
+
+pub put-piece-spec : {M : Type 1} → statement M
+put-piece-spec =
+    tie.close
+    (tie.spec put-number-requires same-length returns slice-write-row same-length-2 returns-2)
