@@ -7,7 +7,8 @@ ghost use Prim.Native.Nat.{_≤_};
 ghost use lib.ListN.{length, take};
 ghost use Rattle.measure.specs.Epoch.{shoushi};
 ghost use Rattle.questions.specs.Question.{replyTo};
-ghost use Rattle.replies.specs.ReplyText.{replyText, yearsRoom};
+ghost use Rattle.list_texts.specs.ListText.{yearsRoom};
+ghost use Rattle.replies.specs.ReplyText.{replyText};
 
 // How many bytes of a line that was begun are kept, and whether to go on.
 struct Turn {

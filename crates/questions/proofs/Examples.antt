@@ -11,9 +11,10 @@ use Rattle.measure.specs.ExtraDays.{extraReply, extraDay}
 use Rattle.inequality.specs.Motion.{motionAtReply}
 use Rattle.seasons.specs.Solstice.{solsticeReply, solstice}
 use Rattle.seasons.specs.Terms.{termReply}
-use Rattle.questions.specs.Text.{bytesOf, same}
+use Rattle.questions.specs.Text.{same}
+use Rattle.words.specs.Ascii.{bytesOf}
 use Rattle.questions.specs.Told.{Told, refusal, nothing, numbers, moment, year, years, help}
-use Rattle.questions.specs.Question.{alone, onDay, onYear, onTerm, lunarIn, motionIn, wordOf, afterWord, replyTo}
+use Rattle.questions.specs.Question.{_among_, alone, withOne, withTwo, lunarIn, motionIn, withHalf, wordOf, afterWord, replyTo}
 
 -- a text is its bytes, as a program holds them
 bytes : bytesOf "solstice" ≡ 115 ∷ 111 ∷ 108 ∷ 115 ∷ 116 ∷ 105 ∷ 99 ∷ 101 ∷ []
@@ -31,12 +32,12 @@ answered :
     × ("extra 0" gets nothing)
     × ("year 999" gets year 999)
     × ("years 1 019" gets years 1 19)
-unfolding digits value isNumber numberOf indexOf indexAfter endOf partOf restOf numbersOf hourReply doubleHour ke extraReply extraDay solsticeReply solstice same alone onDay onYear onTerm wordOf afterWord replyTo
+unfolding digits value isNumber numberOf indexOf indexAfter endOf partOf restOf numbersOf hourReply doubleHour ke extraReply extraDay solsticeReply solstice same _among_ alone withOne withTwo wordOf afterWord replyTo
 answered = (refl, refl, refl, refl, refl, refl, refl)
 
 -- by the calendar, where the question is one
 outside : ("term 1000 0" gets refusal 1) × ("motion-at quick 168" gets refusal 2)
-unfolding digits value isNumber numberOf indexOf indexAfter endOf partOf restOf numbersOf motionAtReply termReply same onTerm motionIn wordOf afterWord replyTo
+unfolding digits value isNumber numberOf indexOf indexAfter endOf partOf restOf numbersOf motionAtReply termReply same _among_ withTwo motionIn withHalf wordOf afterWord replyTo
 outside = (refl, refl)
 
 -- no question: a number too few, one too many, two blanks, no number, a half of the sun's asked of the moon, no word
@@ -47,5 +48,5 @@ no-question :
     × ("year -1" gets refusal 5)
     × ("lunar-at slow 0" gets refusal 5)
     × ("" gets refusal 5)
-unfolding digits value isNumber numberOf indexOf indexAfter endOf partOf restOf numbersOf same alone onDay onYear lunarIn wordOf afterWord replyTo
+unfolding digits value isNumber numberOf indexOf indexAfter endOf partOf restOf numbersOf same _among_ alone withOne lunarIn withHalf wordOf afterWord replyTo
 no-question = (refl, refl, refl, refl, refl, refl)

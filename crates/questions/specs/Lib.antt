@@ -1,3 +1,4 @@
 pub mod Told
 pub mod Text
+pub mod Place
 pub mod Question

@@ -1,7 +1,8 @@
 -- The questions: which words there are, which numbers follow each, and the reply. A question is words and decimal numbers with
 -- one blank between them, and whatever is no question is refused.
 -- Assumes nothing.
-use Prim.Native.Nat.{ℕ}
+use Prim.Native.Nat.{ℕ, zero, suc}
+use Prim.Native.String.{String}
 use mathlib.Core.List.{List, [], _∷_}
 use lib.ListN.{length, take, drop}
 use Rattle.bytes.specs.Bytes.{indexOf}
@@ -33,6 +34,22 @@ use Rattle.questions.specs.Told.{Told, refusal, nothing, numbers, signed
 abbrev pub malformed : Told
 malformed = refusal badLine
 
+-- words, with the reply to each
+abbrev pub Questions : Type 0
+Questions = List (String × Told)
+
+infix 40 _among_
+infix 40 _at_
+unfoldable pub _among_ : List ℕ → Questions → Told
+word among [] = malformed
+word among (q ∷ more) = if word is q .0 then q .1 else word among more
+
+-- the reply at a place, counted from 0
+unfoldable pub _at_ : Questions → ℕ → Told
+[] at k = malformed
+(q ∷ more) at zero = q .1
+(q ∷ more) at suc k = more at k
+
 -- what is told of a number, of a double-hour and its ke, of a day's name, and of the days to add
 abbrev pub number : ℕ → Told
 number n = numbers (n ∷ [])
@@ -48,99 +65,84 @@ found none = nothing
 found (daysOn n) = number n
 
 -- a word alone
-unfoldable pub alone : List ℕ → Told
-alone word =
-    if word is "constants" then constants else
-    if word is "help" then help else
-    malformed
+unfoldable pub alone : Questions
+alone = ("constants", constants) ∷ ("help", help) ∷ []
 
--- a word and a day, or a day's remainder
-unfoldable pub onDay : Epoch → List ℕ → ℕ → Told
-onDay e word d =
-    if word is "day" then told month (dayReply e d) else
-    if word is "name" then named (nameOf d) else
-    if word is "hour" then told hour (hourReply d) else
-    if word is "extra" then told found (extraReply d) else
-    if word is "vanishing" then told found (vanishingReply d) else
-    malformed
+-- with one number: a year, a day, or a day's remainder
+unfoldable pub withOne : Epoch → ℕ → Questions
+withOne e n =
+    ("solstice", told moment (solsticeReply e n))
+    ∷ ("terms", terms n)
+    ∷ ("head", told number (headReply e n))
+    ∷ ("year", year n)
+    ∷ ("day", told month (dayReply e n))
+    ∷ ("name", named (nameOf n))
+    ∷ ("hour", told hour (hourReply n))
+    ∷ ("extra", told found (extraReply n))
+    ∷ ("vanishing", told found (vanishingReply n))
+    ∷ []
 
--- a word and a year
-unfoldable pub onYear : Epoch → List ℕ → ℕ → Told
-onYear e word n =
-    if word is "solstice" then told moment (solsticeReply e n) else
-    if word is "terms" then terms n else
-    if word is "head" then told number (headReply e n) else
-    if word is "year" then year n else
-    onDay e word n
+-- with two: a year and a term, a year and how many, or a lunation and its quarter
+unfoldable pub withTwo : Epoch → ℕ → ℕ → Questions
+withTwo e n i =
+    ("term", told moment (termReply e n i))
+    ∷ ("earth", told moment (earthReply e n i))
+    ∷ ("years", years n i)
+    ∷ ("mean", told moment (meanReply e n i))
+    ∷ ("true", told moment (trueReply e n i))
+    ∷ ("motion", told number (motionReply e n i))
+    ∷ ("solar", told signed (asInteger (solarReply e n i)))
+    ∷ ("lunar", told signed (asInteger (lunarReply e n i)))
+    ∷ ("correction", told signed (asInteger (correctionReply e n i)))
+    ∷ []
 
--- a word, a lunation and its quarter: the two inequalities, and what they do together
-unfoldable pub onInequality : Epoch → List ℕ → ℕ → ℕ → Told
-onInequality e word l q =
-    if word is "solar" then told signed (asInteger (solarReply e l q)) else
-    if word is "lunar" then told signed (asInteger (lunarReply e l q)) else
-    if word is "correction" then told signed (asInteger (correctionReply e l q)) else
-    malformed
+-- with three: a year, a term and its pentad, or a year, a place in it and a day of the month there
+unfoldable pub withThree : Epoch → ℕ → ℕ → ℕ → Questions
+withThree e n i p =
+    ("pentad", told moment (pentadReply e n i p))
+    ∷ ("back", told number (backReply e n i p))
+    ∷ []
 
--- the moon there
-unfoldable pub onMoon : Epoch → List ℕ → ℕ → ℕ → Told
-onMoon e word l q =
-    if word is "mean" then told moment (meanReply e l q) else
-    if word is "true" then told moment (trueReply e l q) else
-    if word is "motion" then told number (motionReply e l q) else
-    onInequality e word l q
+-- with a half, and a time or a whole limit in it
+unfoldable pub solarIn : ℕ → Questions
+solarIn t =
+    ("fast", told signed (asInteger (solarAtReply fast t)))
+    ∷ ("slow", told signed (asInteger (solarAtReply slow t)))
+    ∷ []
 
--- a word, a year, and a term of it or how many years
-unfoldable pub onTerm : Epoch → List ℕ → ℕ → ℕ → Told
-onTerm e word n i =
-    if word is "term" then told moment (termReply e n i) else
-    if word is "earth" then told moment (earthReply e n i) else
-    if word is "years" then years n i else
-    onMoon e word n i
+unfoldable pub lunarIn : ℕ → Questions
+lunarIn t =
+    ("quick", told signed (asInteger (lunarAtReply quick t)))
+    ∷ ("tardy", told signed (asInteger (lunarAtReply tardy t)))
+    ∷ []
 
--- a word, a year, and a pentad of a term or a day of a month
-unfoldable pub onPentad : Epoch → List ℕ → ℕ → ℕ → ℕ → Told
-onPentad e word n i p =
-    if word is "pentad" then told moment (pentadReply e n i p) else
-    if word is "back" then told number (backReply e n i p) else
-    malformed
+unfoldable pub motionIn : ℕ → Questions
+motionIn k =
+    ("quick", told number (motionAtReply quick k))
+    ∷ ("tardy", told number (motionAtReply tardy k))
+    ∷ []
 
--- a half, and a time or a whole limit in it
-unfoldable pub solarIn : List ℕ → ℕ → Told
-solarIn half t =
-    if half is "fast" then told signed (asInteger (solarAtReply fast t)) else
-    if half is "slow" then told signed (asInteger (solarAtReply slow t)) else
-    malformed
+unfoldable pub withHalf : List ℕ → ℕ → Questions
+withHalf half t =
+    ("solar-at", half among solarIn t)
+    ∷ ("lunar-at", half among lunarIn t)
+    ∷ ("motion-at", half among motionIn t)
+    ∷ []
 
-unfoldable pub lunarIn : List ℕ → ℕ → Told
-lunarIn half t =
-    if half is "quick" then told signed (asInteger (lunarAtReply quick t)) else
-    if half is "tardy" then told signed (asInteger (lunarAtReply tardy t)) else
-    malformed
-
-unfoldable pub motionIn : List ℕ → ℕ → Told
-motionIn half k =
-    if half is "quick" then told number (motionAtReply quick k) else
-    if half is "tardy" then told number (motionAtReply tardy k) else
-    malformed
-
--- a word, a half and the numbers after it, of which there is one
+-- the word, the half and the numbers after it, of which there is one
 abbrev pub onHalf : List ℕ → List ℕ → Numbers → Told
-onHalf word half (One t) =
-    if word is "solar-at" then solarIn half t else
-    if word is "lunar-at" then lunarIn half t else
-    if word is "motion-at" then motionIn half t else
-    malformed
+onHalf word half (One t) = word among withHalf half t
 onHalf word half Nothing = malformed
 onHalf word half (Two a b) = malformed
 onHalf word half (Three a b c) = malformed
 onHalf word half Other = malformed
 
--- a word and the numbers that the rest of the line is; where it is not, it starts with a half
+-- the word and the numbers that the rest of the line is; where it is none, it starts with a half
 abbrev pub onNumbers : Epoch → List ℕ → List ℕ → Numbers → Told
-onNumbers e word rest Nothing = alone word
-onNumbers e word rest (One n) = onYear e word n
-onNumbers e word rest (Two n i) = onTerm e word n i
-onNumbers e word rest (Three n i p) = onPentad e word n i p
+onNumbers e word rest Nothing = word among alone
+onNumbers e word rest (One n) = word among withOne e n
+onNumbers e word rest (Two n i) = word among withTwo e n i
+onNumbers e word rest (Three n i p) = word among withThree e n i p
 onNumbers e word rest Other = onHalf word (partOf rest) (numbersOf (restOf rest))
 
 -- the word with which a line starts: what stands before the first blank

@@ -1,16 +1,11 @@
--- A text by its bytes, and the test of a word.
+-- The test of a word.
 -- Assumes nothing.
 use Prim.Native.Nat.{ℕ}
-use Prim.Native.Char.{code}
-use Prim.Native.String.{String, [] as done, _∷_ as _then_}
+use Prim.Native.String.{String}
 use mathlib.Core.List.{List, [], _∷_}
 use mathlib.Core.Bool.{Bool, true, false, _&&_}
 use lib.Dec.{eqb}
-
--- the bytes of a text that is ASCII throughout
-abbrev pub bytesOf : String → List ℕ
-bytesOf done = []
-bytesOf (c then s) = code c ∷ bytesOf s
+use Rattle.words.specs.Ascii.{bytesOf}
 
 unfoldable pub same : List ℕ → List ℕ → Bool
 same [] [] = true

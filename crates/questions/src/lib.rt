@@ -1,9 +1,8 @@
 // From a line of text to the reply that it gets.
-mod days;
+mod counted;
 mod halves;
-mod lunations;
+mod place;
 mod said;
-mod years;
 
 use measure::BAD_LINE;
 use months::Month;
@@ -12,7 +11,7 @@ ghost use mathlib.Core.Path.{_≡_};
 ghost use Rattle.words.specs.Numbers.{numbersOf};
 ghost use Rattle.measure.specs.Epoch.{shoushi};
 ghost use Rattle.questions.specs.Told.{toldIn};
-ghost use Rattle.questions.specs.Question.{alone, onPentad, onNumbers, replyTo};
+ghost use Rattle.questions.specs.Question.{onNumbers, replyTo};
 
 pub enum Reply {
     // By its number.
@@ -56,26 +55,10 @@ fn by_numbers(word: &[u8], rest: &[u8]) -> Reply
 {
     let numbers = words::numbers_in(rest);
     match numbers {
-        Numbers::Nothing => alone(word),
-        Numbers::One(n) => years::on_year(word, n),
-        Numbers::Two(n, i) => years::on_term(word, n, i),
-        Numbers::Three(n, i, p) => years::on_pentad(word, n, i, p),
-        Numbers::Other => halves::on_half(
-            word,
-            words::part_in(rest),
-            words::numbers_in(words::rest_in(rest)),
-        ),
+        Numbers::Nothing => counted::alone(word),
+        Numbers::One(n) => counted::with_one(word, n),
+        Numbers::Two(n, i) => counted::with_two(word, n, i),
+        Numbers::Three(n, i, p) => counted::with_three(word, n, i, p),
+        Numbers::Other => halves::on_half(word, rest),
     }
-}
-
-fn alone(word: &[u8]) -> Reply
-    ensures { λ r. ⌜ toldIn r ≡ alone (now (word .entry)) ⌝ }
-{
-    if check::same(word, b"constants") {
-        return Reply::Constants;
-    }
-    if check::same(word, b"help") {
-        return Reply::Help;
-    }
-    Reply::Refused(BAD_LINE)
 }

@@ -2,11 +2,16 @@
 use crate::Reply;
 use inequality::SignedAnswer;
 use measure::Answer;
+use measure::Days;
+use measure::Hour;
 ghost use mathlib.Core.Path.{_≡_};
 ghost use Rattle.measure.specs.Reply.{answerSaid};
+ghost use Rattle.measure.specs.Hours.{hourSaid};
+ghost use Rattle.measure.specs.ExtraDays.{daysSaid};
 ghost use Rattle.inequality.specs.Signed.{signedSaid};
-ghost use Rattle.questions.specs.Told.{toldIn, told, signed, moment};
-ghost use Rattle.questions.specs.Question.{number};
+ghost use Rattle.months.specs.Month.{replySaid};
+ghost use Rattle.questions.specs.Told.{toldIn, told, signed, month, moment};
+ghost use Rattle.questions.specs.Question.{number, hour, named, found};
 
 // The reply of a number.
 pub fn number_of(a: Answer) -> Reply
@@ -35,5 +40,43 @@ pub fn moment_of(a: Answer) -> Reply
     match a {
         Answer::Refused(k) => Reply::Refused(k),
         Answer::Number(t) => Reply::Moment(t),
+    }
+}
+
+// The reply of a day's month.
+pub fn month_of(m: months::Reply) -> Reply
+    ensures { λ r. ⌜ toldIn r ≡ told month (replySaid m) ⌝ }
+{
+    match m {
+        months::Reply::Refused(k) => Reply::Refused(k),
+        months::Reply::Month(m) => Reply::Month(m),
+    }
+}
+
+// The reply of a day's name.
+pub fn name_of(n: measure::Name) -> Reply
+    ensures { λ r. ⌜ toldIn r ≡ named n ⌝ }
+{
+    Reply::Three(n.name, n.stem, n.branch)
+}
+
+// The reply of a double-hour.
+pub fn hour_of(h: Hour) -> Reply
+    ensures { λ r. ⌜ toldIn r ≡ told hour (hourSaid h) ⌝ }
+{
+    match h {
+        Hour::Refused(k) => Reply::Refused(k),
+        Hour::At { double_hour, ke } => Reply::Two(double_hour, ke),
+    }
+}
+
+// The reply of the days to add.
+pub fn days_on(d: Days) -> Reply
+    ensures { λ r. ⌜ toldIn r ≡ told found (daysSaid d) ⌝ }
+{
+    match d {
+        Days::Refused(k) => Reply::Refused(k),
+        Days::Nothing => Reply::Nothing,
+        Days::Add(n) => Reply::One(n),
     }
 }

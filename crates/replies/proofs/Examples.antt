@@ -4,11 +4,12 @@ use mathlib.Core.List.{[], _∷_}
 use mathlib.Core.Path.{_≡_, refl}
 use lib.IntN.{pos, negsuc}
 use Rattle.measure.specs.Reply.{answer, refused}
-use Rattle.months.specs.Month.{ordinary, leap}
+use Rattle.months.specs.Month.{leap}
 use Rattle.questions.specs.Told.{refusal, nothing, numbers, signed, month, moment, constants}
-use Rattle.texts.specs.Bytes.{bytesOf}
+use Rattle.words.specs.Ascii.{bytesOf}
 use Rattle.texts.specs.Text.{decimalIn, decimal, piece, taken, filled}
-use Rattle.replies.specs.ReplyText.{blankHoles, numberHoles, recordHoles, recordsHoles, refusalText, numbersText, signedText, monthText, momentText, recordsText, constantsText, replyText}
+use Rattle.list_texts.specs.ListText.{blankHoles, numberHoles, recordHoles, recordsHoles, refusalText, numbersText, recordsText}
+use Rattle.replies.specs.ReplyText.{signedText, monthText, momentText, constantsText, replyText}
 
 -- a refusal, and what there is none of
 refusal-told : replyText (refusal 5) ≡ bytesOf "refused 5\n"

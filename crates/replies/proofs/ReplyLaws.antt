@@ -1,37 +1,27 @@
--- Laws of replies: the numbers of a reply told one by one, a number's sign, and a list that was asked for.
+-- Laws of replies: the numbers of a reply told one by one, and a number's sign.
 -- Assumes nothing.
 use mathlib.Core.Bool.{true, false, false≢true}
-use mathlib.Core.List.{List, [], _∷_, _++_}
-use mathlib.Core.Path.{_≡_, _∙_, refl, sym, ap}
+use mathlib.Core.List.{List, [], _∷_}
+use mathlib.Core.Path.{_≡_, sym, ap}
 use Prim.Native.Nat.{ℕ, suc, _≤_}
 use native.Mathlib.Nat.{not-suc-le-zero}
-use native.Mathlib.Omega.{arith}
 use borrow.Author.Tests.{ltb-true}
 use lib.IntN.{ℤ, pos, negsuc, natAbs}
 use lib.Signed.{ltZ}
-use lib.ListN.{length, drop}
+use lib.ListN.{length}
 use mir.Syntax.{w64}
 use mir.Val.{SFits, ofZ, toZ}
 use mir.Facts.{toZ-ofZ}
-use Rattle.measure.specs.Reply.{Reply, answer, refused}
-use Rattle.measure.specs.Row.{over, rowAfter}
+use Rattle.measure.specs.Row.{over}
 use Rattle.measure.specs.Days.{dayOf, remainderOf, sixtyName}
-use Rattle.measure.specs.Epoch.{shoushi}
-use Rattle.measure.proofs.Row.{length-listed}
-use Rattle.seasons.specs.Terms.{terms, term, termList}
 use Rattle.months.specs.Month.{numberIn, markIn, kindSaid, monthSaid}
 use Rattle.months.specs.declared.Month.{Month}
 use Rattle.questions.specs.Told.{toldIn}
 use Rattle.questions.specs.declared.Reply.{Reply as ReplyCase}
-use Rattle.texts.specs.Bytes.{bytesOf}
-use Rattle.texts.specs.Text.{taken, filled}
-use Rattle.texts.proofs.TextLaws.{holes, filled-enough}
-use Rattle.replies.specs.ReplyText.{blankHoles, numberHoles, refusalText, numbersText, signedText, monthText, momentText, listText, replyText, roomOf}
-
--- what is written is the text
-pub told-so : {new text now : List ℕ} {r : ℕ} (row : List ℕ) → new ≡ text → (r ≡ length new) × (now ≡ over new row)
-    → (r ≡ length text) × (now ≡ over text row)
-told-so row e h = (h .0 ∙ ap length e, h .1 ∙ ap (λ (l : List ℕ). over l row) e)
+use Rattle.words.specs.Ascii.{bytesOf}
+use Rattle.texts.specs.Text.{filled}
+use Rattle.list_texts.proofs.ListLaws.{told-so}
+use Rattle.replies.specs.ReplyText.{signedText, monthText, momentText, replyText, roomOf}
 
 pub moment-text : (t d r n : ℕ) → d ≡ dayOf t → r ≡ remainderOf t → n ≡ sixtyName d
     → filled (bytesOf "% % % %\n") (t ∷ d ∷ r ∷ n ∷ []) ≡ momentText t
@@ -60,21 +50,6 @@ module _ (z : ℤ) (m : ℕ) (f : SFits w64 z) (h : m ≡ natAbs (toZ w64 (ofZ w
 
   pub from-zero : ltZ (toZ w64 (ofZ w64 z)) (toZ w64 (ofZ w64 (pos 0))) ≡ false → filled (bytesOf "%\n") (m ∷ []) ≡ signedText z
   from-zero e = positive z m (simp (toZ-ofZ f) at e) (simp (toZ-ofZ f) at h)
-
--- the terms of a year that were asked for
-pub terms-text : (reply : Reply ℕ) (n k : ℕ) (row now : List ℕ) → reply ≡ answer k → now ≡ rowAfter reply (termList shoushi n) row
-    → filled (numberHoles terms ++ bytesOf "\n") now ≡ listText reply (termList shoushi n)
-unfolding listText numbersText numberHoles blankHoles over holes taken termList
-terms-text reply n k row now e h =
-    let list : List ℕ = termList shoushi n in
-    let long : length (termList shoushi n) ≡ terms = length-listed (term shoushi n) 0 terms in
-    rw (h, e)
-    (filled-enough (numberHoles terms ++ bytesOf "\n") list (drop (length list) row) (omega arith)
-    ∙ ap (λ (m : ℕ). filled (numberHoles m ++ bytesOf "\n") list) (sym long))
-
-pub list-refused : (reply : Reply ℕ) (ns : List ℕ) (k : ℕ) → reply ≡ refused k → refusalText k ≡ listText reply ns
-unfolding listText
-list-refused reply ns k e = rw e
 
 -- a reply in the case that it is
 pub case-room : {r case : ReplyCase} {n : ℕ} → r ≡ case → roomOf (toldIn r) ≤ n → roomOf (toldIn case) ≤ n

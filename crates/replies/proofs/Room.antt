@@ -7,7 +7,8 @@ use borrow.Author.Tests.{le-ltb}
 use lib.ListN.{length}
 use Rattle.measure.specs.Reply.{answer}
 use Rattle.questions.specs.Told.{Told, refusal, nothing, numbers, signed, month, moment, terms, year, years, constants, help}
-use Rattle.replies.specs.ReplyText.{replyText, yearsRoom, roomOf, replyReply}
+use Rattle.list_texts.specs.ListText.{yearsRoom}
+use Rattle.replies.specs.ReplyText.{replyText, roomOf, replyReply}
 
 room-most : (t : Told) → roomOf t ≤ yearsRoom
 unfolding roomOf

@@ -1,6 +1,4 @@
 // The line of text that is written for each reply.
-mod rows;
-
 use measure::Answer;
 use measure::SHORT_ROW;
 use months::Month;
@@ -14,7 +12,8 @@ ghost use Rattle.measure.specs.Reply.{answerSaid};
 ghost use Rattle.measure.specs.Row.{over, rowAfter};
 ghost use Rattle.months.specs.Month.{monthSaid};
 ghost use Rattle.questions.specs.Told.{nothing, toldIn};
-ghost use Rattle.replies.specs.ReplyText.{refusalText, numbersText, signedText, monthText, momentText, constantsText, helpText, replyText, lineRoom, roomOf, replyReply};
+ghost use Rattle.list_texts.specs.ListText.{numbersText, lineRoom};
+ghost use Rattle.replies.specs.ReplyText.{signedText, monthText, momentText, constantsText, helpText, replyText, roomOf, replyReply};
 
 // Room for one line, and for the records of all years.
 pub const LINE_ROOM: usize = 16_384;
@@ -48,7 +47,7 @@ fn put_reply(r: Reply, row: &mut [u8]) -> usize
     ensures { λ _. ⌜ now (row .exit) ≡ over (replyText (toldIn r)) (now (row .entry)) ⌝ }
 {
     match r {
-        Reply::Refused(k) => put_refusal(k, row),
+        Reply::Refused(k) => list_texts::put_refusal(k, row),
         Reply::Nothing => put_nothing(row),
         Reply::One(a) => put_one(a, row),
         Reply::Two(a, b) => put_two(a, b, row),
@@ -56,20 +55,12 @@ fn put_reply(r: Reply, row: &mut [u8]) -> usize
         Reply::Signed(z) => put_signed(z, row),
         Reply::Month(m) => put_month(m, row),
         Reply::Moment(t) => put_moment(t, row),
-        Reply::Terms(n) => rows::put_terms(n, row),
-        Reply::Year(n) => rows::put_year(n, row),
-        Reply::Years(n, k) => rows::put_years(n, k, row),
+        Reply::Terms(n) => list_texts::put_terms(n, row),
+        Reply::Year(n) => list_texts::put_year(n, row),
+        Reply::Years(n, k) => list_texts::put_years(n, k, row),
         Reply::Constants => put_constants(row),
         Reply::Help => put_help(row),
     }
-}
-
-fn put_refusal(k: u64, row: &mut [u8]) -> usize
-    requires { ⌜ lineRoom ≤ length (now row) ⌝ }
-    ensures { λ n. ⌜ n ≡ length (refusalText k) ⌝ }
-    ensures { λ _. ⌜ now (row .exit) ≡ over (refusalText k) (now (row .entry)) ⌝ }
-{
-    fill(b"refused %\n", &[k], row)
 }
 
 fn put_nothing(row: &mut [u8]) -> usize

@@ -4,14 +4,12 @@
 use mathlib.Core.Bool.{Bool, true, false}
 use mathlib.Core.Path.{_≡_, _∙_, refl, sym, ap}
 use mathlib.Core.List.{List, [], _∷_, _++_, append-assoc}
-use Prim.Native.Nat.{ℕ, zero, suc, _+_, _*_, _^_, _≤_, _<_}
+use Prim.Native.Nat.{ℕ, zero, _+_, _≤_, _<_}
 use native.Mathlib.Nat.{add-zero}
 use native.Mathlib.Numerals.{add-one}
 use native.Mathlib.Omega.{arith}
-use lib.ListN.{length, getD, take, drop, length-append, length-drop, List·getD-append}
-use lib.Seq.{drop-cons, drop-drop, getD-drop, take-at, drop-append-le, length-take-le}
-use Rattle.measure.specs.Row.{over}
-use Rattle.measure.proofs.Row.{restFrom, withRest, grow}
+use lib.ListN.{length, getD, drop, length-append, length-drop, List·getD-append}
+use lib.Seq.{drop-cons, drop-drop, getD-drop, drop-append-le}
 use Rattle.measure.specs.Choice.{if_then_else_, _=?_}
 use Rattle.measure.proofs.Choice.{if-cases}
 use Rattle.texts.specs.Text.{decimal, hole, piece, taken, filled, mostDigits, textRoom}

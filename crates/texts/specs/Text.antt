@@ -6,7 +6,7 @@ use Prim.Native.Nat.{ℕ, zero, suc, _+_, _*_, _/_, _%_}
 use lib.ListN.{length, getD, drop}
 use Rattle.measure.specs.Choice.{if_then_else_, _<?_, _=?_}
 use Rattle.measure.specs.Reply.{Reply, answer, shortRow, refuseIf}
-use Rattle.texts.specs.Bytes.{bytesOf}
+use Rattle.words.specs.Ascii.{bytesOf}
 
 -- the byte of a digit
 abbrev pub digit : ℕ → ℕ

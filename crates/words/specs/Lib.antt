@@ -1,2 +1,3 @@
 pub mod Number
 pub mod Numbers
+pub mod Ascii

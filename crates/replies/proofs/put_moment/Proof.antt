@@ -3,7 +3,8 @@ use borrow.Author.Needs.{needs}
 use denote.Ref.{now}
 use mathlib.Core.Path.{ap}
 use Rattle.measure.specs.declared.Name.{Name}
-use Rattle.replies.proofs.ReplyLaws.{told-so, moment-text}
+use Rattle.list_texts.proofs.ListLaws.{told-so}
+use Rattle.replies.proofs.ReplyLaws.{moment-text}
 use Rattle.replies.proofs.put_moment.Statement.{statement}
 use Rattle.replies.proofs.put_moment.Tie as tie
 

@@ -1,7 +1,8 @@
 -- `replies::put_month` meets its contract. Assumes nothing.
 use borrow.Author.Needs.{needs}
 use denote.Ref.{now}
-use Rattle.replies.proofs.ReplyLaws.{told-so, month-text}
+use Rattle.list_texts.proofs.ListLaws.{told-so}
+use Rattle.replies.proofs.ReplyLaws.{month-text}
 use Rattle.replies.proofs.put_month.Statement.{statement}
 use Rattle.replies.proofs.put_month.Tie as tie
 

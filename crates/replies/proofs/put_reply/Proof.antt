@@ -6,7 +6,8 @@ use mir.Syntax.{w64}
 use mir.Val.{SFits}
 use mir.Facts.{toZ-ofZ}
 use Rattle.replies.specs.ReplyText.{signedText, replyText, roomOf}
-use Rattle.replies.proofs.ReplyLaws.{told-so, case-room, case-told}
+use Rattle.list_texts.proofs.ListLaws.{told-so}
+use Rattle.replies.proofs.ReplyLaws.{case-room, case-told}
 use Rattle.replies.proofs.put_reply.Statement.{statement}
 use Rattle.replies.proofs.put_reply.Tie as tie
 

@@ -1,7 +1,8 @@
 -- `replies::put_signed` meets its contract. Assumes nothing.
 use borrow.Author.Needs.{needs}
 use denote.Ref.{now}
-use Rattle.replies.proofs.ReplyLaws.{told-so, below-zero, from-zero}
+use Rattle.list_texts.proofs.ListLaws.{told-so}
+use Rattle.replies.proofs.ReplyLaws.{below-zero, from-zero}
 use Rattle.replies.proofs.put_signed.Statement.{statement}
 use Rattle.replies.proofs.put_signed.Tie as tie
 

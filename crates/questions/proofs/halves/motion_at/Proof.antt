@@ -1,0 +1,44 @@
+-- `questions::halves::motion_at` meets its contract. Assumes nothing.
+use borrow.Author.Needs.{needs}
+use Rattle.questions.specs.Question.{_at_, motionIn}
+use Rattle.questions.proofs.Among.{no-place}
+use Rattle.questions.proofs.halves.motion_at.Statement.{statement}
+use Rattle.questions.proofs.halves.motion_at.Tie as tie
+
+motion-at-requires : tie.Need-motion-at-requires
+motion-at-requires c κs = search needs
+
+number-of-requires : tie.Need-number-of-requires
+number-of-requires c κs = search needs
+
+motion-at-requires-2 : tie.Need-motion-at-requires-2
+motion-at-requires-2 c κs = search needs
+
+number-of-requires-2 : tie.Need-number-of-requires-2
+number-of-requires-2 c κs = search needs
+
+returns : tie.Need-returns
+unfolding _at_ motionIn
+returns c = simp (c .number-of .ensures, c .before .motion-at .ensures, c .before .before .match .keys1)
+
+returns-2 : tie.Need-returns-2
+unfolding _at_ motionIn
+returns-2 c = simp (c .number-of2 .ensures, c .before .motion-at2 .ensures, c .before .before .match .keys2)
+
+returns-3 : tie.Need-returns-3
+unfolding motionIn
+returns-3 c =
+    let args = c .before .args in
+    no-place (motionIn (args .t)) (args .k) (c .match .rest)
+
+pub motion-at-spec : {M : Type 1} → statement M
+motion-at-spec =
+    tie.close
+    (tie.spec
+    motion-at-requires
+    number-of-requires
+    motion-at-requires-2
+    number-of-requires-2
+    returns
+    returns-2
+    returns-3)
