@@ -1,4 +1,5 @@
 // The lines of lists: the terms of a year, and the months of years as records; and that of a refusal.
+use lists::RECORD_WIDTH;
 use measure::Answer;
 use texts::fill;
 ghost use mathlib.Core.Path.{_≡_};
@@ -64,8 +65,6 @@ pub fn put_years(n: u64, k: u64, row: &mut [u8]) -> usize
         Answer::Number(count) => put_records(count as usize, &numbers, row),
     }
 }
-
-const RECORD_WIDTH: usize = lists::RECORD_WIDTH;
 
 // So many records of a row, and the line end.
 fn put_records(count: usize, numbers: &[u64], row: &mut [u8]) -> usize

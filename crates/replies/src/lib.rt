@@ -160,7 +160,11 @@ fn put_constants(row: &mut [u8]) -> usize
         measure::ANOMALY_EPOCH,
     ];
     fill(
-        b"day=% fen=% miao=% year=% half-year=% month=% quarter=% term=% pentad=% earth=% anomalistic-month=% anomalistic-half=% solstice-epoch=% leap-epoch=% anomaly-epoch=%\n",
+        b"day=% fen=% miao=% \
+          year=% half-year=% month=% quarter=% \
+          term=% pentad=% earth=% \
+          anomalistic-month=% anomalistic-half=% \
+          solstice-epoch=% leap-epoch=% anomaly-epoch=%\n",
         &values,
         row,
     )
@@ -172,7 +176,13 @@ fn put_help(row: &mut [u8]) -> usize
     ensures { λ _. ⌜ now (row .exit) ≡ over helpText (now (row .entry)) ⌝ }
 {
     fill(
-        b"questions: constants, solstice N, term N I, pentad N I P, earth N I, terms N, mean L Q, true L Q, solar L Q, lunar L Q, correction L Q, motion L Q, solar-at fast|slow T, lunar-at quick|tardy T, motion-at quick|tardy K, name D, hour R, extra R, vanishing R, head N, day D, back N P M, year N, years N C, help\n",
+        b"questions: constants, \
+          solstice N, term N I, pentad N I P, earth N I, terms N, \
+          mean L Q, true L Q, solar L Q, lunar L Q, correction L Q, motion L Q, \
+          solar-at fast|slow T, lunar-at quick|tardy T, motion-at quick|tardy K, \
+          name D, hour R, extra R, vanishing R, \
+          head N, day D, back N P M, year N, years N C, \
+          help\n",
         &[],
         row,
     )

@@ -1,18 +1,18 @@
--- Laws of decimal digits: how many there are, and that the fewest that hold a number are all of them.
+-- Laws of decimal digits: how many there are, that the fewest that hold a number are all of them, and that they spell it.
 -- Assumes nothing.
 use mathlib.Core.Logic.{⊎-elim}
-use mathlib.Core.Path.{_≡_, sym}
+use mathlib.Core.Path.{_≡_, refl, sym}
 use mathlib.Core.List.{List, [], _∷_, _++_}
-use Prim.Native.Nat.{ℕ, zero, suc, _-_, _/_, _%_, _^_, _≤_, _<_}
-use native.Mathlib.Nat.{pow-suc, one-le-pow, pow-le-pow-right, mod-eq-of-lt, not-suc-le-zero}
+use Prim.Native.Nat.{ℕ, zero, suc, _+_, _-_, _*_, _/_, _%_, _^_, _≤_, _<_}
+use native.Mathlib.Nat.{pow-zero, pow-suc, one-le-pow, pow-le-pow-right, mod-eq-of-lt, not-suc-le-zero}
 use native.Mathlib.Numerals.{unary-clauses}
 use native.Mathlib.Omega.{arith}
 use borrow.Author.Tests.{lt-ltb, le-ltb}
 use lib.Dec.{lit<}
 use lib.ListN.{length, length-append}
 use Rattle.io.specs.Digits.{glyph, digits, Fewest}
-use Rattle.measure.specs.Choice.{if_then_else_, _<?_}
-use Rattle.measure.proofs.Choice.{lt-or-ge, if-cases}
+use Rattle.measure.specs.Choice.{_<?_}
+use Rattle.measure.proofs.Choice.{lt-or-ge, if-cases, if-lt}
 use Rattle.texts.specs.Text.{digit, decimalIn, decimal, mostDigits}
 
 one-digit : (n : ℕ) → glyph (n % 10) ≡ digit (n % 10)
@@ -62,3 +62,31 @@ in-most (suc k) n =
 pub decimal-most : (n : ℕ) → length (decimal n) ≤ mostDigits
 unfolding decimal
 decimal-most n = in-most mostDigits n
+
+-- what digits spell, after what was read before them
+unfoldable pub spelled : ℕ → List ℕ → ℕ
+spelled n [] = n
+spelled n (b ∷ bs) = spelled (n * 10 + (b - digit 0)) bs
+
+spelled-last : (n b : ℕ) (bs : List ℕ) → spelled n (bs ++ (b ∷ [])) ≡ spelled n bs * 10 + (b - digit 0)
+unfolding spelled
+spelled-last n b [] = refl
+spelled-last n b (a ∷ bs) = spelled-last (n * 10 + (a - digit 0)) b bs
+
+-- the digits of a number spell it
+in-spells : (k n : ℕ) → n < 10 ^ k → spelled 0 (decimalIn k n) ≡ n
+unfolding decimalIn spelled
+in-spells zero n h = omega (arith, pow-zero 10)
+in-spells (suc k) n h =
+    if-lt (λ (l : List ℕ). spelled 0 l ≡ n) (digit n ∷ []) (decimalIn k (n / 10) ++ (digit (n % 10) ∷ [])) n 10
+    (λ _. omega arith)
+    (λ _.
+    omega (
+      arith,
+      spelled-last 0 (digit (n % 10)) (decimalIn k (n / 10)),
+      in-spells k (n / 10) (omega (arith, pow-suc 10 k)),
+    ))
+
+pub decimal-spells : (n : ℕ) → n < 2 ^ 64 → spelled 0 (decimal n) ≡ n
+unfolding decimal
+decimal-spells n h = in-spells mostDigits n (omega arith)

@@ -21,6 +21,7 @@ unfoldable pub decimalIn : ℕ → ℕ → List ℕ
 decimalIn zero n = []
 decimalIn (suc k) n = if n <? 10 then digit n ∷ [] else decimalIn k (n / 10) ++ (digit (n % 10) ∷ [])
 
+-- all digits of a number of 64 bits; of a larger one, which no program holds, the last 20
 unfoldable pub decimal : ℕ → List ℕ
 decimal n = decimalIn mostDigits n
 
