@@ -1,4 +1,4 @@
-// The questions by how many numbers follow the word.
+// The questions by how many numbers follow the word. A list has the words, and a word's place in it picks the reply.
 use crate::Reply;
 use crate::place::place_of;
 use crate::said::days_on;

@@ -1,4 +1,5 @@
-// The inequalities and the motion asked directly: a half, and a time or a whole limit in it.
+// The inequalities and the motion asked directly: a half, and a time or a whole limit in it. Words and halves are found by
+// their place in a list.
 use crate::Reply;
 use crate::place::place_of;
 use crate::said::number_of;
