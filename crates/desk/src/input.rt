@@ -1,4 +1,5 @@
 // The lines: from the arguments, or from standard input by blocks. Each is answered as it ends.
+use libc::STDERR_FILENO;
 use libc::STDIN_FILENO;
 use libc::STDOUT_FILENO;
 use measure::Answer;
@@ -28,12 +29,21 @@ fn answered(line: &[u8], buf: &mut [u8]) -> usize
     n as usize
 }
 
+// Writes out; whether all of it went through. Where it did not, standard error says so, since a program has no exit status.
+fn write_out(out: &[u8]) -> bool {
+    let ok = io::write_all(STDOUT_FILENO, out);
+    if !ok {
+        io::write_all(STDERR_FILENO, b"desk: the output is cut short\n");
+    }
+    ok
+}
+
 // Answers a line; whether the reply was written out.
 fn answer_line(line: &[u8], buf: &mut [u8]) -> bool
     requires { ⌜ yearsRoom ≤ length (now buf) ⌝ }
 {
     let n = answered(line, buf);
-    io::write_all(STDOUT_FILENO, &buf[..n])
+    write_out(&buf[..n])
 }
 
 // One byte more of a line; how many are kept then. A full buffer drops the byte: a line so long is refused.

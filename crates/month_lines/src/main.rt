@@ -1,4 +1,5 @@
 // Reads days from standard input, a line each, and writes the month of each to standard output.
+use libc::STDERR_FILENO;
 use libc::STDIN_FILENO;
 use libc::STDOUT_FILENO;
 use lines::REPLY_ROOM;
@@ -35,6 +36,15 @@ fn fill(buf: &mut [u8], kept: usize) -> usize
     kept + io::count(got, part)
 }
 
+// Writes out; whether all of it went through. Where it did not, standard error says so, since a program has no exit status.
+fn write_out(out: &[u8]) -> bool {
+    let ok = io::write_all(STDOUT_FILENO, out);
+    if !ok {
+        io::write_all(STDERR_FILENO, b"month_lines: the output is cut short\n");
+    }
+    ok
+}
+
 // One block. Where nothing more is read, what is kept is the last line.
 fn one_turn(buf: &mut [u8], out: &mut [u8], kept: usize) -> Turn
     requires { ⌜ (kept ≤ enough) × (enough ≤ length (now buf)) × (replyRoom * length (now buf) ≤ length (now out)) ⌝ }
@@ -43,7 +53,7 @@ fn one_turn(buf: &mut [u8], out: &mut [u8], kept: usize) -> Turn
     let have = fill(buf, kept);
     if have == kept {
         let last = blocks::answer_lines(&buf[..kept], out);
-        io::write_all(STDOUT_FILENO, &out[..last]);
+        write_out(&out[..last]);
         return Turn {
             kept: 0,
             more: false,
@@ -51,7 +61,7 @@ fn one_turn(buf: &mut [u8], out: &mut [u8], kept: usize) -> Turn
     }
     let answered = blocks::answer_block(buf, have, out);
     let written = answered.written;
-    let ok = io::write_all(STDOUT_FILENO, &out[..written]);
+    let ok = write_out(&out[..written]);
     Turn {
         kept: answered.kept,
         more: ok,

@@ -1,12 +1,10 @@
 -- Texts with holes: each % of a template stands for the next number, in decimal.
 -- Assumes nothing.
 use mathlib.Core.List.{List, [], _∷_, _++_}
-use mathlib.Core.Path.{_≡_, refl}
 use Prim.Native.Nat.{ℕ, zero, suc, _+_, _*_, _/_, _%_}
 use lib.ListN.{length, getD, drop}
 use Rattle.measure.specs.Choice.{if_then_else_, _<?_, _=?_}
 use Rattle.measure.specs.Reply.{Reply, answer, shortRow, refuseIf}
-use Rattle.words.specs.Ascii.{bytesOf}
 
 -- the byte of a digit
 abbrev pub digit : ℕ → ℕ
@@ -48,15 +46,3 @@ textRoom t = mostDigits * length t
 -- how many bytes are written, where the row has room for so many
 unfoldable pub textReply : List ℕ → List ℕ → ℕ → Reply ℕ
 textReply t ns room = refuseIf (room <? textRoom t) shortRow (answer (length (filled t ns)))
-
-named : filled (bytesOf "day=% fen=%") (100_000_000 ∷ 10_000 ∷ []) ≡ bytesOf "day=100000000 fen=10000"
-unfolding filled piece taken decimal decimalIn
-named = refl
-
-too-few : filled (bytesOf "% %:%") (7 ∷ 10 ∷ []) ≡ bytesOf "7 10:0"
-unfolding filled piece taken decimal decimalIn
-too-few = refl
-
-largest : decimal 18_446_744_073_709_551_615 ≡ bytesOf "18446744073709551615"
-unfolding decimal decimalIn
-largest = refl

@@ -28,17 +28,17 @@ answer-lines-requires c κs =
     let fits : kept ≤ length (fill .fill .last .0) = omega (arith, fill .fill .kept .0) in
     omega (arith, length-take-le kept (fill .fill .last .0) fits)
 
-slice-reshare-prefix-write-all : tie.Need-slice-reshare-prefix-write-all
-slice-reshare-prefix-write-all c = search needs
+slice-reshare-prefix-write-out : tie.Need-slice-reshare-prefix-write-out
+slice-reshare-prefix-write-out c = search needs
 
-slice-aggregate-write-all : tie.Need-slice-aggregate-write-all
-slice-aggregate-write-all c =
+slice-aggregate-write-out : tie.Need-slice-aggregate-write-out
+slice-aggregate-write-out c =
     let lines = c .before .before .before in
     let fits : lines .answer-lines .result ≤ length (lines .answer-lines .last .1 .0) = omega (arith, lines .answer-lines .kept .1 .0, lines .answer-lines .ensures .0) in
     sym (length-take-le _ _ fits)
 
-write-all-requires : tie.Need-write-all-requires
-write-all-requires c κs = search needs
+write-out-requires : tie.Need-write-out-requires
+write-out-requires c κs = search needs
 
 same-length : tie.Need-same-length
 same-length c = search needs
@@ -52,17 +52,17 @@ returns c = search needs
 answer-block-requires : tie.Need-answer-block-requires
 answer-block-requires c κs = search needs
 
-slice-reshare-prefix-write-all-2 : tie.Need-slice-reshare-prefix-write-all-2
-slice-reshare-prefix-write-all-2 c = search needs
+slice-reshare-prefix-write-out-2 : tie.Need-slice-reshare-prefix-write-out-2
+slice-reshare-prefix-write-out-2 c = search needs
 
-slice-aggregate-write-all-2 : tie.Need-slice-aggregate-write-all-2
-slice-aggregate-write-all-2 c =
+slice-aggregate-write-out-2 : tie.Need-slice-aggregate-write-out-2
+slice-aggregate-write-out-2 c =
     let block = c .before .before .before .before .before in
     let fits : block .answer-block .result .written ≤ length (block .answer-block .last .1 .1 .0) = omega (arith, block .answer-block .kept .1 .1 .0, block .answer-block .ensures .0) in
     sym (length-take-le _ _ fits)
 
-write-all-requires-2 : tie.Need-write-all-requires-2
-write-all-requires-2 c κs = search needs
+write-out-requires-2 : tie.Need-write-out-requires-2
+write-out-requires-2 c κs = search needs
 
 same-length-3 : tie.Need-same-length-3
 same-length-3 c = search needs
@@ -81,16 +81,16 @@ one-turn-spec =
     slice-reshare-prefix-answer-lines
     slice-aggregate-answer-lines
     answer-lines-requires
-    slice-reshare-prefix-write-all
-    slice-aggregate-write-all
-    write-all-requires
+    slice-reshare-prefix-write-out
+    slice-aggregate-write-out
+    write-out-requires
     same-length
     same-length-2
     returns
     answer-block-requires
-    slice-reshare-prefix-write-all-2
-    slice-aggregate-write-all-2
-    write-all-requires-2
+    slice-reshare-prefix-write-out-2
+    slice-aggregate-write-out-2
+    write-out-requires-2
     same-length-3
     same-length-4
     returns-2)

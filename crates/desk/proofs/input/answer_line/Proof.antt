@@ -11,18 +11,18 @@ use Rattle.desk.proofs.input.answer_line.Tie as tie
 answered-requires : tie.Need-answered-requires
 answered-requires c κs = search needs
 
-slice-reshare-prefix-write-all : tie.Need-slice-reshare-prefix-write-all
-slice-reshare-prefix-write-all c = search needs
+slice-reshare-prefix-write-out : tie.Need-slice-reshare-prefix-write-out
+slice-reshare-prefix-write-out c = search needs
 
-slice-aggregate-write-all : tie.Need-slice-aggregate-write-all
-slice-aggregate-write-all c =
+slice-aggregate-write-out : tie.Need-slice-aggregate-write-out
+slice-aggregate-write-out c =
     let told = c .before .before .before in
     let fits : told .answered .result ≤ length (told .answered .last .1 .0) =
     omega (arith, told .answered .kept .1 .0, told .answered .ensures .0) in
     sym (length-take-le _ _ fits)
 
-write-all-requires : tie.Need-write-all-requires
-write-all-requires c κs = search needs
+write-out-requires : tie.Need-write-out-requires
+write-out-requires c κs = search needs
 
 same-length : tie.Need-same-length
 same-length c = search needs
@@ -35,8 +35,8 @@ answer-line-spec =
     tie.close
     (tie.spec
     answered-requires
-    slice-reshare-prefix-write-all
-    slice-aggregate-write-all
-    write-all-requires
+    slice-reshare-prefix-write-out
+    slice-aggregate-write-out
+    write-out-requires
     same-length
     returns)
