@@ -3,7 +3,7 @@ use mathlib.Core.Path.{_≡_, refl}
 use mathlib.Core.List.{[], _∷_}
 use Prim.Native.String.{String}
 use Rattle.bytes.specs.Bytes.{indexOf, indexAfter}
-use Rattle.words.specs.Number.{digits, value, isNumber, numberOf}
+use Rattle.decimals.specs.Number.{digits, value, isNumber, numberOf}
 use Rattle.words.specs.Numbers.{endOf, partOf, restOf, numbersOf}
 use Rattle.measure.specs.Epoch.{shoushi}
 use Rattle.measure.specs.Hours.{hourReply, doubleHour, ke}

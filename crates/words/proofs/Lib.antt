@@ -1,4 +1,3 @@
-pub mod Digits
 pub mod Examples
 pub mod Parts
 pub mod Unique

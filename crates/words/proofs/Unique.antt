@@ -5,9 +5,6 @@ use borrow.Fn.Kinds.{endedOf}
 use denote.Ref.{now}
 use denote.Triple.Clauses.{AtExit}
 use mathlib.Core.Path.{_≡_, _∙_, sym}
-use Rattle.words.proofs.number_in as number-in
-use Rattle.words.proofs.number_in.Kinds as number-in-kinds
-use Rattle.words.proofs.number_in.Reads as number-in-reads
 use Rattle.words.proofs.numbers_in as numbers-in
 use Rattle.words.proofs.numbers_in.Kinds as numbers-in-kinds
 use Rattle.words.proofs.numbers_in.Reads as numbers-in-reads
@@ -17,11 +14,6 @@ use Rattle.words.proofs.part_in.Reads as part-in-reads
 use Rattle.words.proofs.rest_in as rest-in
 use Rattle.words.proofs.rest_in.Kinds as rest-in-kinds
 use Rattle.words.proofs.rest_in.Reads as rest-in-reads
-
-pub number-in-unique : (κs : Lfts 1) (a : ArgsD number-in.signature κs) (r₁ r₂ : ResD number-in.signature κs)
-    (s₁ s₂ : AtExit (endedOf 1 number-in-kinds.ps number-in-kinds.r) κs)
-    → number-in-reads.Post κs a r₁ s₁ → number-in-reads.Post κs a r₂ s₂ → r₁ ≡ r₂
-number-in-unique κs a r₁ r₂ s₁ s₂ p₁ p₂ = p₁ ∙ sym p₂
 
 pub numbers-in-unique : (κs : Lfts 1) (a : ArgsD numbers-in.signature κs) (r₁ r₂ : ResD numbers-in.signature κs)
     (s₁ s₂ : AtExit (endedOf 1 numbers-in-kinds.ps numbers-in-kinds.r) κs)

@@ -1,4 +1,4 @@
--- `words::number_in` meets its contract. The loop's invariant: the bytes passed are digits, and `v` is what they write.
+-- `decimals::number_in` meets its contract. The loop's invariant: the bytes passed are digits, and `v` is what they write.
 -- Assumes nothing.
 use Prim.Native.Nat.{_-_, _^_, _≤_, _<_}
 use mathlib.Core.Path.{_≡_, _∙_, refl, sym, ap}
@@ -8,11 +8,11 @@ use borrow.Author.Tests.{le-leb, lt-leb}
 use lib.ListN.{length}
 use lib.Dec.{lit<}
 use denote.Ref.{now}
-use Rattle.words.specs.declared.Number.the-variants.{Value}
-use Rattle.words.specs.Number.{digits, value}
-use Rattle.words.proofs.Digits.{digits-more, value-more, empty, long, no-digit, large, whole}
-use Rattle.words.proofs.number_in.Statement.{statement}
-use Rattle.words.proofs.number_in.Tie as tie
+use Rattle.decimals.specs.declared.Number.the-variants.{Value}
+use Rattle.decimals.specs.Number.{digits, value}
+use Rattle.decimals.proofs.Digits.{digits-more, value-more, empty, long, no-digit, large, whole}
+use Rattle.decimals.proofs.number_in.Statement.{statement}
+use Rattle.decimals.proofs.number_in.Tie as tie
 
 abbrev Inv-loop : tie.InvT-loop
 Inv-loop s v₀ i₀ v i = (i ≤ length s) × (digits s i ≡ true) × (value s i ≡ v) × (v < 2 ^ 64)

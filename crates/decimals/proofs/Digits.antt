@@ -8,8 +8,8 @@ use native.Mathlib.Numerals.{add-one}
 use native.Mathlib.Omega.{arith}
 use borrow.Author.Tests.{le-leb, lt-leb, lt-ltb, le-ltb}
 use lib.ListN.{length, getD}
-use Rattle.words.specs.declared.Number.the-variants.{Value, Bad}
-use Rattle.words.specs.Number.{isDigit, digits, value, isNumber, numberOf}
+use Rattle.decimals.specs.declared.Number.the-variants.{Value, Bad}
+use Rattle.decimals.specs.Number.{isDigit, digits, value, isNumber, numberOf}
 
 -- one digit more
 pub digits-more : (s : List ℕ) (i : ℕ) → digits s (i + 1) ≡ (digits s i && isDigit (getD s i 0))
