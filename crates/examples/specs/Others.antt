@@ -33,7 +33,8 @@ use Rattle.day_lines.specs.Digits.{digitOf}
 use Rattle.day_lines.specs.DayLine.{spelled, dayAsked}
 use Rattle.lines.specs.Digits.{digitByte, digitsOf}
 use Rattle.lines.specs.Line.{lineReply, lineOf, lastLine, outputFrom, output}
-use Rattle.viewer.specs.Bytes.{lowFirst, bytesOf, roomIn}
+use Rattle.record_bytes.specs.Bytes.{lowFirst, bytesOf}
+use Rattle.viewer.specs.Room.{roomIn}
 
 -- the input 00023, 0003F, 00022, 00g40 and its output
 asked : List ℕ

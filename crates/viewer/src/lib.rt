@@ -5,17 +5,19 @@ use measure::Answer;
 use measure::SHORT_ROW;
 use months::Month;
 use months::Reply;
+use record_bytes::NUMBER_BYTES;
+use record_bytes::put_numbers;
 ghost use mathlib.Core.Path.{_≡_};
-ghost use Prim.Native.Nat.{_*_, _≤_, _<_};
-ghost use lib.ListN.{length, take};
+ghost use Prim.Native.Nat.{_<_};
 ghost use Rattle.measure.specs.Epoch.{shoushi};
 ghost use Rattle.measure.specs.Reply.{answer, refused};
-ghost use Rattle.measure.specs.Row.{over, rowAfter};
+ghost use Rattle.measure.specs.Row.{rowAfter};
 ghost use Rattle.month_law.specs.Calendar.{monthsIn};
 ghost use Rattle.month_law.specs.Edition.{calendar};
 ghost use Rattle.months.specs.Month.{dayReply, monthSaid};
 ghost use Rattle.lists.specs.Records.{recordsOf, listReply};
-ghost use Rattle.viewer.specs.Bytes.{numberBytes, lowFirst, bytesOf, roomIn};
+ghost use Rattle.record_bytes.specs.Bytes.{bytesOf};
+ghost use Rattle.viewer.specs.Room.{roomIn};
 ghost use Rattle.viewer.specs.Told.{Fits, dayTold, countTold};
 
 // A reply about a day. In a month, refused is 0; a refusal has its number there and 0 in every other field. No month has length 0.
@@ -72,8 +74,6 @@ pub extern "C" fn lengadriu_year(row: &mut [u8], n: u64) -> Count
     }
 }
 
-const NUMBER_BYTES: usize = 4;
-
 const RECORD_BYTES: usize = RECORD_WIDTH * NUMBER_BYTES;
 
 // How many numbers the records of a year are at most.
@@ -120,28 +120,4 @@ fn count_refused(k: u64) -> Count
         refused: k as u32,
         records: 0,
     }
-}
-
-// The first k numbers as bytes, from the row's start.
-fn put_numbers(numbers: &[u64], k: usize, row: &mut [u8])
-    requires { ⌜ (k ≤ length (now numbers)) × (numberBytes * k ≤ length (now row)) ⌝ }
-    ensures { λ _. ⌜ now (row .exit) ≡ over (bytesOf (take k (now (numbers .entry)))) (now (row .entry)) ⌝ }
-{
-    let mut i: usize = 0;
-    while i < k {
-        let used = i * NUMBER_BYTES;
-        put_number(numbers[i], &mut row[used..]);
-        i += 1;
-    }
-}
-
-// A number of 32 bits, low byte first, at the row's start.
-fn put_number(n: u64, row: &mut [u8])
-    requires { ⌜ numberBytes ≤ length (now row) ⌝ }
-    ensures { λ _. ⌜ now (row .exit) ≡ over (lowFirst n) (now (row .entry)) ⌝ }
-{
-    row[0] = (n % 256) as u8;
-    row[1] = (n / 256 % 256) as u8;
-    row[2] = (n / 65_536 % 256) as u8;
-    row[3] = (n / 16_777_216 % 256) as u8;
 }

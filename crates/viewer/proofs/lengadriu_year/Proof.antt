@@ -8,7 +8,8 @@ use native.Mathlib.Omega.{arith}
 use borrow.Author.Needs.{needs}
 use denote.Ref.{now}
 use Rattle.measure.specs.Row.{over}
-use Rattle.viewer.specs.Bytes.{bytesOf, roomIn}
+use Rattle.record_bytes.specs.Bytes.{bytesOf}
+use Rattle.viewer.specs.Room.{roomIn}
 use Rattle.viewer.specs.Told.{countTold}
 use Rattle.viewer.proofs.YearReply.{count-most, short-refused, long-answered, numbers-given, year-refused, refused-in-any}
 use Rattle.viewer.proofs.lengadriu_year.Statement.{statement}

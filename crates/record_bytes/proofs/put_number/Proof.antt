@@ -1,4 +1,4 @@
--- `viewer::put_number` meets its contract: one store after the other. Assumes nothing.
+-- `record_bytes::put_number` meets its contract: one store after the other. Assumes nothing.
 use mathlib.Core.List.{[], _∷_}
 use mathlib.Core.Path.{refl}
 use Prim.Native.Nat.{_/_, _%_}
@@ -8,9 +8,9 @@ use borrow.Author.Needs.{needs}
 use denote.Ref.{now}
 use Rattle.measure.specs.Row.{over}
 use Rattle.measure.proofs.Row.{put}
-use Rattle.viewer.specs.Bytes.{lowFirst}
-use Rattle.viewer.proofs.put_number.Statement.{statement}
-use Rattle.viewer.proofs.put_number.Tie as tie
+use Rattle.record_bytes.specs.Bytes.{lowFirst}
+use Rattle.record_bytes.proofs.put_number.Statement.{statement}
+use Rattle.record_bytes.proofs.put_number.Tie as tie
 
 cast-row : tie.Need-cast-row
 cast-row c = search needs

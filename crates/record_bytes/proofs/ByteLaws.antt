@@ -7,7 +7,7 @@ use native.Mathlib.Numerals.{add-one}
 use native.Mathlib.Omega.{arith}
 use lib.ListN.{length, take, getD, length-append}
 use lib.Seq.{take-suc, length-take-le}
-use Rattle.viewer.specs.Bytes.{numberBytes, lowFirst, bytesOf}
+use Rattle.record_bytes.specs.Bytes.{numberBytes, lowFirst, bytesOf}
 
 length-low-first : (n : ℕ) → length (lowFirst n) ≡ numberBytes
 unfolding lowFirst

@@ -1,9 +1,7 @@
--- The viewer's row: month records as bytes, each number of 32 bits with its low byte first.
+-- A row of numbers as bytes: each has 32 bits, with its low byte first.
 -- Assumes nothing.
 use mathlib.Core.List.{List, [], _∷_, _++_}
-use Prim.Native.Nat.{ℕ, _*_, _/_, _%_}
-use lib.ListN.{length}
-use Rattle.lists.specs.Records.{recordWidth}
+use Prim.Native.Nat.{ℕ, _/_, _%_}
 
 abbrev pub numberBytes : ℕ
 numberBytes = 4
@@ -15,7 +13,3 @@ lowFirst n = n % 256 ∷ n / 256 % 256 ∷ n / 65536 % 256 ∷ n / 16777216 % 25
 unfoldable pub bytesOf : List ℕ → List ℕ
 bytesOf [] = []
 bytesOf (n ∷ ns) = lowFirst n ++ bytesOf ns
-
--- how many whole records a row of bytes has room for
-unfoldable pub roomIn : List ℕ → ℕ
-roomIn row = length row / (recordWidth * numberBytes)

@@ -1,4 +1,4 @@
--- `viewer::put_numbers` meets its contract: after i turns the row holds the bytes of the first i numbers, and past them what it held.
+-- `record_bytes::put_numbers` meets its contract: after i turns the row holds the bytes of the first i numbers, and past them what it held.
 -- Assumes nothing.
 use mathlib.Core.List.{List}
 use mathlib.Core.Path.{_≡_, _∙_, refl, sym, ap}
@@ -9,10 +9,10 @@ use borrow.Rule.Slice.PartMut.{same-len-mid}
 use denote.Ref.{now}
 use Rattle.measure.specs.Row.{over}
 use Rattle.measure.proofs.Row.{grow}
-use Rattle.viewer.specs.Bytes.{numberBytes, lowFirst, bytesOf}
-use Rattle.viewer.proofs.ByteLaws.{length-bytes-taken, bytes-more}
-use Rattle.viewer.proofs.put_numbers.Statement.{statement}
-use Rattle.viewer.proofs.put_numbers.Tie as tie
+use Rattle.record_bytes.specs.Bytes.{numberBytes, lowFirst, bytesOf}
+use Rattle.record_bytes.proofs.ByteLaws.{length-bytes-taken, bytes-more}
+use Rattle.record_bytes.proofs.put_numbers.Statement.{statement}
+use Rattle.record_bytes.proofs.put_numbers.Tie as tie
 
 abbrev Inv-loop : tie.InvT-loop
 Inv-loop numbers k row₀ i₀ row i = (i ≤ k) × (length row ≡ length row₀) × (row ≡ over (bytesOf (take i numbers)) row₀)
