@@ -9,7 +9,7 @@ use Rattle.measure.specs.Epoch.{shoushi}
 use Rattle.measure.specs.Days.{dayOf, sixtyName}
 use Rattle.measure.specs.Hours.{doubleHour, ke, hourReply}
 use Rattle.measure.specs.ExtraDays.{daysOn, none, extraDay, extraReply}
-use Rattle.inequality.specs.Signed.{aheadBy, behindBy}
+use Rattle.signed.specs.Signed.{aheadBy, behindBy}
 use Rattle.inequality.specs.Law.{taken, law, exact}
 use Rattle.inequality.specs.Solar.{fast, slow, fastAt, slowAt, solarAt, solar, solarTime}
 use Rattle.inequality.specs.Lunar.{quick, tardy, lunarMagnitude, lunarAt, lunar, anomaly}

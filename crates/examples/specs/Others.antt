@@ -12,7 +12,7 @@ use Rattle.measure.specs.Epoch.{shoushi}
 use Rattle.measure.specs.Days.{sixtyName, stem, branch}
 use Rattle.measure.specs.Hours.{doubleHour, ke, hourReply}
 use Rattle.measure.specs.ExtraDays.{daysOn, none, extraDay, extraReply, vanishingDay, vanishingReply}
-use Rattle.inequality.specs.Signed.{aheadBy, behindBy}
+use Rattle.signed.specs.Signed.{aheadBy, behindBy}
 use Rattle.inequality.specs.Law.{taken, law, exact}
 use Rattle.inequality.specs.Solar.{slow, fast, fastAt, slowAt, solar, solarTime, solarAtReply}
 use Rattle.inequality.specs.Lunar.{quick, tardy, lunarMagnitude, lunar, anomaly, lunarAtReply}

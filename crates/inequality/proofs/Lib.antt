@@ -1,5 +1,4 @@
 pub mod Below
-pub mod Integers
 pub mod Evaluation
 pub mod NearerEnd
 pub mod Sizes

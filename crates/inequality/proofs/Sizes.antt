@@ -4,9 +4,9 @@ use Prim.Native.Nat.{ℕ, _+_, _*_, _-_, _≤_}
 use native.Mathlib.Omega.{arith}
 use lib.Dec.{lit≤}
 use Rattle.measure.specs.Units.{day, halfYear, anomalisticHalf}
+use Rattle.signed.specs.Signed.{Signed, minus}
 use Rattle.inequality.specs.Law.{lawA, lawB, lawMoon}
 use Rattle.inequality.specs.Evaluation.{fromNearerEnd}
-use Rattle.inequality.specs.Signed.{Signed, minus}
 use Rattle.inequality.specs.Solar.{fastLimit, slowLimit, fastAt, slowAt, solar}
 use Rattle.inequality.specs.Lunar.{middle, end, limits, lunarMagnitude, lunar}
 use Rattle.inequality.specs.Motion.{wholeLaw}

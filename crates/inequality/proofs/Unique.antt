@@ -1,12 +1,8 @@
 -- Each question's contract determines its reply.
 -- Assumes nothing.
-use mathlib.Core.Path.{_≡_, _∙_, refl, sym}
-use lib.IntN.{ℤ}
-use Rattle.measure.specs.Reply.{Reply, answer, refused}
-use Rattle.measure.proofs.Determined.{OneReply, read-back, one-answer}
-use Rattle.inequality.specs.Signed.{signedSaid}
-use Rattle.inequality.specs.declared.SignedAnswer.{SignedAnswer}
-use Rattle.inequality.specs.declared.SignedAnswer.the-variants.{Number, Refused}
+use mathlib.Core.Path.{_∙_, sym}
+use Rattle.measure.proofs.Determined.{OneReply, one-answer}
+use Rattle.signed.proofs.Unique.{one-signed}
 use Rattle.inequality.proofs.solar_at.Kinds as solar-at
 use Rattle.inequality.proofs.solar_at.Reads as solar-at-reads
 use Rattle.inequality.proofs.lunar_at.Kinds as lunar-at
@@ -19,20 +15,6 @@ use Rattle.inequality.proofs.lunar.Kinds as lunar
 use Rattle.inequality.proofs.lunar.Reads as lunar-reads
 use Rattle.inequality.proofs.motion.Kinds as motion
 use Rattle.inequality.proofs.motion.Reads as motion-reads
-use Rattle.inequality.proofs.magnitude_of.Kinds as magnitude-of
-use Rattle.inequality.proofs.magnitude_of.Reads as magnitude-of-reads
-
-signedMeant : Reply ℤ → SignedAnswer
-signedMeant (answer z) = Number z
-signedMeant (refused k) = Refused k
-
-signed-back : (a : SignedAnswer) → signedMeant (signedSaid a) ≡ a
-unfolding signedMeant
-signed-back (Number z) = refl
-signed-back (Refused k) = refl
-
-pub one-signed : (x y : SignedAnswer) (z : Reply ℤ) → signedSaid x ≡ z → signedSaid y ≡ z → x ≡ y
-one-signed = read-back signedSaid signedMeant signed-back
 
 pub solar-at-unique : OneReply solar-at.ps solar-at.r solar-at-reads.Post
 solar-at-unique κs a x y s t p q = one-signed x y _ p q
@@ -51,6 +33,3 @@ lunar-unique κs a x y s t p q = p ∙ sym q
 
 pub motion-unique : OneReply motion.ps motion.r motion-reads.Post
 motion-unique κs a x y s t p q = p ∙ sym q
-
-pub magnitude-of-unique : OneReply magnitude-of.ps magnitude-of.r magnitude-of-reads.Post
-magnitude-of-unique κs a x y s t p q = p ∙ sym q

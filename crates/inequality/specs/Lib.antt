@@ -1,4 +1,3 @@
-pub mod Signed
 pub mod Law
 pub mod Evaluation
 pub mod Solar

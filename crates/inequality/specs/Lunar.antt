@@ -6,7 +6,7 @@ use Rattle.measure.specs.Choice.{if_then_else_, _≤?_, _<?_}
 use Rattle.measure.specs.Reply.{Reply, answer, outside, refuseIf}
 use Rattle.measure.specs.Units.{day, month, quarterStep, anomalisticMonth, anomalisticHalf}
 use Rattle.measure.specs.Epoch.{Epoch, anomalyStart}
-use Rattle.inequality.specs.Signed.{Signed, aheadBy, behindBy}
+use Rattle.signed.specs.Signed.{Signed, aheadBy, behindBy}
 use Rattle.inequality.specs.Law.{lawMoon, law}
 use Rattle.inequality.specs.declared.LunarHalf.{LunarHalf as LunarHalfAsked}
 use Rattle.inequality.specs.declared.LunarHalf.the-variants.{Quick, Tardy}

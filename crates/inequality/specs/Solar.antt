@@ -6,7 +6,7 @@ use Rattle.measure.specs.Choice.{if_then_else_, _≤?_, _<?_}
 use Rattle.measure.specs.Reply.{Reply, answer, outside, refuseIf}
 use Rattle.measure.specs.Units.{year, halfYear, month, quarterStep}
 use Rattle.measure.specs.Epoch.{Epoch, solarStart}
-use Rattle.inequality.specs.Signed.{Signed, aheadBy, behindBy}
+use Rattle.signed.specs.Signed.{Signed, aheadBy, behindBy}
 use Rattle.inequality.specs.Law.{lawA, lawB, law}
 use Rattle.inequality.specs.declared.SolarHalf.{SolarHalf as SolarHalfAsked}
 use Rattle.inequality.specs.declared.SolarHalf.the-variants.{Fast, Slow}

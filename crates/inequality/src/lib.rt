@@ -10,12 +10,14 @@ use measure::Answer;
 use measure::DAY;
 use measure::HALF_YEAR;
 use measure::OUTSIDE;
+use signed::SignedAnswer;
+use signed::ahead;
+use signed::behind;
 ghost use mathlib.Core.Path.{_≡_};
-ghost use lib.IntN.{natAbs};
-ghost use Prim.Native.Nat.{_*_, _≤_, _<_};
+ghost use Prim.Native.Nat.{_≤_, _<_};
 ghost use Rattle.measure.specs.Reply.{answerSaid};
-ghost use Rattle.measure.specs.Units.{day, year, halfYear, anomalisticMonth, anomalisticHalf};
-ghost use Rattle.inequality.specs.Signed.{aheadBy, behindBy, integer, asInteger, signedSaid};
+ghost use Rattle.measure.specs.Units.{year, halfYear, anomalisticMonth, anomalisticHalf};
+ghost use Rattle.signed.specs.Signed.{integer, asInteger, signedSaid};
 ghost use Rattle.inequality.specs.Solar.{fastAt, slowAt, solar, solarAtReply, solarHalf};
 ghost use Rattle.inequality.specs.Lunar.{limits, lunarMagnitude, lunar, lunarAtReply, lunarHalf};
 ghost use Rattle.inequality.specs.Motion.{motion, motionAtReply};
@@ -30,12 +32,6 @@ pub enum SolarHalf {
 pub enum LunarHalf {
     Quick,
     Tardy,
-}
-
-// A signed number that was asked for, or a refusal's number.
-pub enum SignedAnswer {
-    Number(i64),
-    Refused(u64),
 }
 
 // The solar inequality at a time in a half. The half year or more is refused with 2.
@@ -152,30 +148,4 @@ fn magnitude(time: u64) -> u64
         laws::LAW_MOON,
         limits::from_nearer_end(limits::in_time(time), MIDDLE * DAY),
     )
-}
-
-// A positive number, and a negative one.
-fn ahead(magnitude: u64) -> i64
-    requires { ⌜ magnitude ≤ day * day ⌝ }
-    ensures { λ r. ⌜ r ≡ integer (aheadBy magnitude) ⌝ }
-{
-    magnitude as i64
-}
-
-fn behind(magnitude: u64) -> i64
-    requires { ⌜ magnitude ≤ day * day ⌝ }
-    ensures { λ r. ⌜ r ≡ integer (behindBy magnitude) ⌝ }
-{
-    -(magnitude as i64)
-}
-
-// How large a signed number is, without its sign.
-pub fn magnitude_of(number: i64) -> u64
-    ensures { λ r. ⌜ r ≡ natAbs number ⌝ }
-{
-    if number < 0 {
-        (-(number + 1)) as u64 + 1
-    } else {
-        number as u64
-    }
 }

@@ -8,7 +8,7 @@ use native.Mathlib.Omega.{arith}
 use Rattle.measure.specs.Units.{year, anomalisticMonth}
 use Rattle.measure.specs.ExtraDays.{monthDeficit}
 use Rattle.measure.proofs.Choice.{lt-or-ge}
-use Rattle.inequality.specs.Signed.{Signed, aheadBy, minus}
+use Rattle.signed.specs.Signed.{Signed, aheadBy, minus}
 use Rattle.inequality.specs.Solar.{solar}
 use Rattle.inequality.specs.Lunar.{lunar, anomalyAdvance}
 use Rattle.inequality.specs.Motion.{motion}

@@ -12,7 +12,7 @@ use borrow.Author.Tests.{leb-true, leb-false, ltb-true, ltb-false}
 use Rattle.measure.specs.Choice.{if_then_else_, _≤?_, _<?_}
 use Rattle.measure.specs.Units.{day}
 use Rattle.measure.proofs.Choice.{lt-or-ge, passes-or-fails}
-use Rattle.inequality.specs.Signed.{Signed, aheadBy, behindBy}
+use Rattle.signed.specs.Signed.{Signed, aheadBy, behindBy}
 use Rattle.inequality.specs.Law.{Law, law}
 use Rattle.inequality.proofs.LawStep.{Steady, law-rises, law-falls}
 use Rattle.month_law.proofs.Signed.{gap, gap-sym, gap-triangle, gap-behind}

@@ -6,7 +6,7 @@ use native.Mathlib.Omega.{arith}
 use lib.Dec.{lit≤}
 use Rattle.measure.specs.Choice.{_≤?_, _<?_}
 use Rattle.measure.specs.Units.{day, anomalisticMonth, anomalisticHalf}
-use Rattle.inequality.specs.Signed.{Signed, aheadBy, behindBy}
+use Rattle.signed.specs.Signed.{Signed, aheadBy, behindBy}
 use Rattle.inequality.specs.Law.{lawMoon, taken, law}
 use Rattle.inequality.specs.Lunar.{middle, end, limits, lunarMagnitude, lunar, anomalyAdvance}
 use Rattle.inequality.proofs.LawStep.{Steady}

@@ -7,7 +7,7 @@ use Rattle.measure.specs.Units.{day, year, month, anomalisticMonth}
 use Rattle.measure.specs.ExtraDays.{monthDeficit}
 use Rattle.measure.specs.Epoch.{Epoch, meanStart}
 use Rattle.measure.specs.Days.{dayOf}
-use Rattle.inequality.specs.Signed.{Signed}
+use Rattle.signed.specs.Signed.{Signed}
 use Rattle.inequality.specs.Solar.{solarTime}
 use Rattle.inequality.specs.Lunar.{anomaly, anomalyAdvance}
 use Rattle.inequality.proofs.Sizes.{Within}

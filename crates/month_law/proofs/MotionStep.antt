@@ -8,7 +8,7 @@ use native.Mathlib.Omega.{arith}
 use borrow.Author.Tests.{lt-ltb, le-ltb}
 use Rattle.measure.specs.Units.{day, anomalisticMonth, anomalisticHalf}
 use Rattle.measure.proofs.Choice.{lt-or-ge}
-use Rattle.inequality.specs.Signed.{aheadBy}
+use Rattle.signed.specs.Signed.{aheadBy}
 use Rattle.inequality.specs.Lunar.{end, limits, anomalyAdvance}
 use Rattle.inequality.specs.Motion.{wholeLimit, motionInRow, rows, rowOf, motion}
 use Rattle.inequality.proofs.MotionRows.{rowOn, fewerRows, moreRows, motionStep, Near, near-fewer, near-more}

@@ -3,7 +3,7 @@
 use mathlib.Core.Path.{_≡_}
 use Prim.Native.Nat.{ℕ, _+_, _-_, _≤_}
 use native.Mathlib.Omega.{arith}
-use Rattle.inequality.specs.Signed.{Signed, aheadBy, behindBy, minus}
+use Rattle.signed.specs.Signed.{Signed, aheadBy, behindBy, minus}
 
 -- the magnitude of the difference: of the two differences of naturals one is 0
 unfoldable pub gap : Signed → Signed → ℕ

@@ -6,7 +6,7 @@ use native.Mathlib.Omega.{arith}
 use lib.Dec.{lit≤}
 use Rattle.measure.specs.Choice.{_≤?_, _<?_}
 use Rattle.measure.specs.Units.{day, year, halfYear, month}
-use Rattle.inequality.specs.Signed.{Signed, aheadBy, behindBy}
+use Rattle.signed.specs.Signed.{Signed, aheadBy, behindBy}
 use Rattle.inequality.specs.Law.{lawA, lawB, taken, law}
 use Rattle.inequality.specs.Solar.{fastLimit, slowLimit, fastAt, slowAt, solar}
 use Rattle.inequality.proofs.LawStep.{Steady}

@@ -10,11 +10,11 @@ use mir.Syntax.{w64}
 use mir.Val.{SFits, toZ, ofZ}
 use mir.Facts.{toZ-ofZ}
 use Rattle.measure.specs.Epoch.{shoushi}
-use Rattle.inequality.specs.Signed.{minus, integer}
+use Rattle.signed.specs.Signed.{minus, integer}
+use Rattle.signed.proofs.Integers.{integer-minus, integer-mag, opposite-mag, held}
 use Rattle.inequality.specs.Solar.{solar}
 use Rattle.inequality.specs.Lunar.{lunar}
 use Rattle.inequality.specs.Motion.{motion}
-use Rattle.inequality.proofs.Integers.{integer-minus, integer-mag, opposite-mag, held}
 use Rattle.inequality.proofs.Sizes.{differenceSize, difference-size}
 use Rattle.inequality.proofs.Rows.{motion-most}
 use Rattle.moons.specs.Lunation.{Counted, mean}

@@ -8,11 +8,11 @@ use native.Mathlib.Omega.{arith}
 use lib.IntN.{ℤ, pos, negsuc, negℤ, _+ℤ_, _-ℤ_, _*ℤ_}
 use lib.Signed.{quotZ}
 use Rattle.measure.specs.Epoch.{shoushi}
-use Rattle.inequality.specs.Signed.{Signed, aheadBy, minus, integer}
+use Rattle.signed.specs.Signed.{Signed, aheadBy, minus, integer}
+use Rattle.signed.proofs.Integers.{Is, is-subℕ, is-neg, is-integer, integer-is, integer-ahead, integer-minus}
 use Rattle.inequality.specs.Solar.{solar, solarTime}
 use Rattle.inequality.specs.Lunar.{lunar, anomaly}
 use Rattle.inequality.specs.Motion.{motion}
-use Rattle.inequality.proofs.Integers.{Is, is-subℕ, is-neg, is-integer, integer-is, integer-ahead, integer-minus}
 use Rattle.inequality.proofs.Sizes.{Within, difference-size}
 use Rattle.inequality.proofs.Rows.{motion-least}
 use Rattle.moons.specs.Lunation.{mean}

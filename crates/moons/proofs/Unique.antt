@@ -2,7 +2,7 @@
 -- Assumes nothing.
 use mathlib.Core.Path.{_∙_, sym}
 use Rattle.measure.proofs.Determined.{OneReply, one-answer}
-use Rattle.inequality.proofs.Unique.{one-signed}
+use Rattle.signed.proofs.Unique.{one-signed}
 use Rattle.moons.proofs.mean.Kinds as mean
 use Rattle.moons.proofs.mean.Reads as mean-reads
 use Rattle.moons.proofs.solar.Kinds as solar

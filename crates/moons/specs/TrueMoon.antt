@@ -4,7 +4,7 @@ use Prim.Native.Nat.{ℕ, _+_, _*_, _-_, _/_}
 use Rattle.measure.specs.Reply.{Reply}
 use Rattle.measure.specs.Days.{dayOf}
 use Rattle.measure.specs.Epoch.{Epoch}
-use Rattle.inequality.specs.Signed.{Signed, minus}
+use Rattle.signed.specs.Signed.{Signed, minus}
 use Rattle.inequality.specs.Solar.{solar, solarTime}
 use Rattle.inequality.specs.Lunar.{lunar, anomaly}
 use Rattle.inequality.specs.Motion.{motion}

@@ -1,5 +1,4 @@
 // Mean and true moons: a lunation and its quarter, with both inequalities and the correction.
-use inequality::SignedAnswer;
 use measure::ANOMALISTIC_MONTH;
 use measure::ANOMALY_EPOCH;
 use measure::Answer;
@@ -10,6 +9,7 @@ use measure::OUTSIDE;
 use measure::QUARTER_STEP;
 use measure::SOLSTICE_EPOCH;
 use measure::YEAR;
+use signed::SignedAnswer;
 ghost use mathlib.Core.Bool.{_||_};
 ghost use mathlib.Core.Path.{_≡_};
 ghost use Prim.Native.Nat.{_<_};
@@ -17,7 +17,7 @@ ghost use Rattle.measure.specs.Choice.{_<?_};
 ghost use Rattle.measure.specs.Reply.{answerSaid};
 ghost use Rattle.measure.specs.Units.{year, anomalisticMonth};
 ghost use Rattle.measure.specs.Epoch.{shoushi};
-ghost use Rattle.inequality.specs.Signed.{integer, asInteger, signedSaid};
+ghost use Rattle.signed.specs.Signed.{integer, asInteger, signedSaid};
 ghost use Rattle.inequality.specs.Solar.{solarTime};
 ghost use Rattle.inequality.specs.Lunar.{anomaly};
 ghost use Rattle.moons.specs.Lunation.{lastLunation, lastQuarter, Counted, mean, meanReply};

@@ -16,7 +16,7 @@ use Rattle.measure.specs.Days.{nameOf}
 use Rattle.measure.specs.Hours.{hourReply}
 use Rattle.measure.specs.ExtraDays.{Found, none, daysOn, extraReply, vanishingReply}
 use Rattle.measure.specs.declared.Name.{Name}
-use Rattle.inequality.specs.Signed.{asInteger}
+use Rattle.signed.specs.Signed.{asInteger}
 use Rattle.inequality.specs.Solar.{fast, slow, solarAtReply}
 use Rattle.inequality.specs.Lunar.{quick, tardy, lunarAtReply}
 use Rattle.inequality.specs.Motion.{motionAtReply}

@@ -101,7 +101,7 @@ fn put_signed(z: i64, row: &mut [u8]) -> usize
     ensures { λ n. ⌜ n ≡ length (signedText z) ⌝ }
     ensures { λ _. ⌜ now (row .exit) ≡ over (signedText z) (now (row .entry)) ⌝ }
 {
-    let magnitude = inequality::magnitude_of(z);
+    let magnitude = signed::magnitude_of(z);
     if z < 0 {
         fill(b"-%\n", &[magnitude], row)
     } else {

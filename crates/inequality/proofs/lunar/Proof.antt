@@ -5,8 +5,8 @@ use native.Mathlib.Omega.{arith}
 use borrow.Author.Needs.{needs}
 use borrow.Author.Tests.{lt-ltb, le-ltb}
 use Rattle.measure.specs.Units.{anomalisticHalf}
+use Rattle.signed.proofs.Integers.{held}
 use Rattle.inequality.specs.Lunar.{limits, lunar}
-use Rattle.inequality.proofs.Integers.{held}
 use Rattle.inequality.proofs.Sizes.{magnitude-le}
 use Rattle.inequality.proofs.lunar.Statement.{statement}
 use Rattle.inequality.proofs.lunar.Tie as tie

@@ -4,8 +4,8 @@ use native.Mathlib.Omega.{arith}
 use borrow.Author.Needs.{needs}
 use borrow.Author.Tests.{le-leb, lt-leb}
 use Rattle.measure.specs.Reply.{answer}
+use Rattle.signed.proofs.Integers.{held}
 use Rattle.inequality.specs.Lunar.{limits, lunarAtReply}
-use Rattle.inequality.proofs.Integers.{held}
 use Rattle.inequality.proofs.Sizes.{magnitude-le}
 use Rattle.inequality.proofs.lunar_at.Statement.{statement}
 use Rattle.inequality.proofs.lunar_at.Tie as tie

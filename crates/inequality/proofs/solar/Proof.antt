@@ -5,8 +5,8 @@ use native.Mathlib.Omega.{arith}
 use borrow.Author.Needs.{needs}
 use borrow.Author.Tests.{lt-ltb, le-ltb}
 use Rattle.measure.specs.Units.{halfYear}
+use Rattle.signed.proofs.Integers.{held}
 use Rattle.inequality.specs.Solar.{solar}
-use Rattle.inequality.proofs.Integers.{held}
 use Rattle.inequality.proofs.Sizes.{fast-le, slow-le}
 use Rattle.inequality.proofs.solar.Statement.{statement}
 use Rattle.inequality.proofs.solar.Tie as tie

@@ -2,8 +2,8 @@
 use mathlib.Core.Path.{_∙_, sym, ap}
 use borrow.Author.Needs.{needs}
 use Rattle.measure.specs.Reply.{answer}
-use Rattle.inequality.specs.Signed.{asInteger}
-use Rattle.inequality.proofs.Integers.{held}
+use Rattle.signed.specs.Signed.{asInteger}
+use Rattle.signed.proofs.Integers.{held}
 use Rattle.moons.specs.TrueMoon.{correctionReply}
 use Rattle.moons.proofs.Admitted.{refused-past, answered, counted}
 use Rattle.moons.proofs.correction.Statement.{statement}

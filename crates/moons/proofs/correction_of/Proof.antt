@@ -3,7 +3,7 @@ use mathlib.Core.Path.{_∙_}
 use native.Mathlib.Omega.{arith}
 use borrow.Author.Needs.{needs}
 use Rattle.measure.specs.Epoch.{shoushi}
-use Rattle.inequality.proofs.Integers.{held}
+use Rattle.signed.proofs.Integers.{held}
 use Rattle.moons.specs.TrueMoon.{correctionOf}
 use Rattle.moons.proofs.Times.{solar-time-lt, anomaly-lt}
 use Rattle.moons.proofs.correction_of.Statement.{statement}

@@ -5,9 +5,9 @@ use native.Mathlib.Omega.{arith}
 use borrow.Author.Needs.{needs}
 use Rattle.measure.specs.Reply.{answer}
 use Rattle.measure.specs.Epoch.{shoushi}
-use Rattle.inequality.specs.Signed.{integer, asInteger}
+use Rattle.signed.specs.Signed.{integer, asInteger}
+use Rattle.signed.proofs.Integers.{held}
 use Rattle.inequality.specs.Lunar.{lunar}
-use Rattle.inequality.proofs.Integers.{held}
 use Rattle.moons.specs.TrueMoon.{lunarReply}
 use Rattle.moons.proofs.Admitted.{refused-past, answered, counted}
 use Rattle.moons.proofs.Times.{anomaly-lt}

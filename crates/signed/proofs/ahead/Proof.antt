@@ -1,12 +1,12 @@
--- `inequality::ahead` meets its contract. Assumes nothing.
+-- `signed::ahead` meets its contract. Assumes nothing.
 use mathlib.Core.Path.{_∙_, sym}
 use native.Mathlib.Omega.{arith}
 use mir.Syntax.{w64}
 use mir.Facts.{toZ-pos}
 use borrow.Author.Needs.{needs}
-use Rattle.inequality.proofs.Integers.{integer-ahead}
-use Rattle.inequality.proofs.ahead.Statement.{statement}
-use Rattle.inequality.proofs.ahead.Tie as tie
+use Rattle.signed.proofs.Integers.{integer-ahead}
+use Rattle.signed.proofs.ahead.Statement.{statement}
+use Rattle.signed.proofs.ahead.Tie as tie
 
 cast-result : tie.Need-cast-result
 cast-result c = search needs

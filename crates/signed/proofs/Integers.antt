@@ -10,7 +10,7 @@ use lib.Signed.{mag}
 use mir.Syntax.{w64}
 use mir.Val.{toZ, ofZ}
 use mir.Facts.{toZ-ofZ}
-use Rattle.inequality.specs.Signed.{Signed, aheadBy, behindBy, minus, integer}
+use Rattle.signed.specs.Signed.{Signed, aheadBy, behindBy, minus, integer}
 
 -- the integer z is what is ahead in x less what is behind
 abbrev pub Is : ℤ → Signed → Type 0

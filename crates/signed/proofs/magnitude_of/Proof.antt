@@ -1,4 +1,4 @@
--- `inequality::magnitude_of` meets its contract: one more than a negative number fits, and its opposite is one less than the magnitude.
+-- `signed::magnitude_of` meets its contract: one more than a negative number fits, and its opposite is one less than the magnitude.
 -- Assumes nothing.
 use mathlib.Core.Bool.{Bool, true, false, not}
 use mathlib.Core.Path.{_≡_, refl, ap, sym, subst, _∙_}
@@ -13,9 +13,9 @@ use mir.Val.{SFits, ofZ, toZ}
 use mir.Facts.{toZ-ofZ, toZ-pos, fits-natAbs}
 use borrow.Author.Needs.{needs}
 use borrow.Author.Tests.{lt-ltb}
-use Rattle.inequality.proofs.Integers.{opposite-mag}
-use Rattle.inequality.proofs.magnitude_of.Statement.{statement}
-use Rattle.inequality.proofs.magnitude_of.Tie as tie
+use Rattle.signed.proofs.Integers.{opposite-mag}
+use Rattle.signed.proofs.magnitude_of.Statement.{statement}
+use Rattle.signed.proofs.magnitude_of.Tie as tie
 
 -- one more than a negative number
 one-up : (n : ℕ) → negsuc n +ℤ pos 1 ≡ negℤ (pos n)

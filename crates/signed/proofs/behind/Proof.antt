@@ -1,13 +1,13 @@
--- `inequality::behind` meets its contract. Assumes nothing.
+-- `signed::behind` meets its contract. Assumes nothing.
 use mathlib.Core.Path.{sym}
 use native.Mathlib.Omega.{arith}
 use lib.IntN.{pos, negℤ}
 use mir.Syntax.{w64}
 use mir.Facts.{toZ-pos}
 use borrow.Author.Needs.{needs}
-use Rattle.inequality.proofs.Integers.{integer-behind, held, opposite, opposite-mag}
-use Rattle.inequality.proofs.behind.Statement.{statement}
-use Rattle.inequality.proofs.behind.Tie as tie
+use Rattle.signed.proofs.Integers.{integer-behind, held, opposite, opposite-mag}
+use Rattle.signed.proofs.behind.Statement.{statement}
+use Rattle.signed.proofs.behind.Tie as tie
 
 cast-result : tie.Need-cast-result
 cast-result c = search needs

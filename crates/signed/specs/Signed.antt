@@ -3,8 +3,8 @@
 use Prim.Native.Nat.{ℕ, _+_}
 use lib.IntN.{ℤ, subℕ}
 use Rattle.measure.specs.Reply.{Reply, answer, refused}
-use Rattle.inequality.specs.declared.SignedAnswer.{SignedAnswer}
-use Rattle.inequality.specs.declared.SignedAnswer.the-variants.{Number, Refused}
+use Rattle.signed.specs.declared.SignedAnswer.{SignedAnswer}
+use Rattle.signed.specs.declared.SignedAnswer.the-variants.{Number, Refused}
 
 pub record Signed : Type 0 where
   pub ahead : ℕ

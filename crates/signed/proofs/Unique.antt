@@ -1,0 +1,26 @@
+-- Each question's contract determines its reply, and what a signed answer says determines the answer.
+-- Assumes nothing.
+use mathlib.Core.Path.{_≡_, _∙_, refl, sym}
+use lib.IntN.{ℤ}
+use Rattle.measure.specs.Reply.{Reply, answer, refused}
+use Rattle.measure.proofs.Determined.{OneReply, read-back}
+use Rattle.signed.specs.Signed.{signedSaid}
+use Rattle.signed.specs.declared.SignedAnswer.{SignedAnswer}
+use Rattle.signed.specs.declared.SignedAnswer.the-variants.{Number, Refused}
+use Rattle.signed.proofs.magnitude_of.Kinds as magnitude-of
+use Rattle.signed.proofs.magnitude_of.Reads as magnitude-of-reads
+
+signedMeant : Reply ℤ → SignedAnswer
+signedMeant (answer z) = Number z
+signedMeant (refused k) = Refused k
+
+signed-back : (a : SignedAnswer) → signedMeant (signedSaid a) ≡ a
+unfolding signedMeant
+signed-back (Number z) = refl
+signed-back (Refused k) = refl
+
+pub one-signed : (x y : SignedAnswer) (z : Reply ℤ) → signedSaid x ≡ z → signedSaid y ≡ z → x ≡ y
+one-signed = read-back signedSaid signedMeant signed-back
+
+pub magnitude-of-unique : OneReply magnitude-of.ps magnitude-of.r magnitude-of-reads.Post
+magnitude-of-unique κs a x y s t p q = p ∙ sym q
