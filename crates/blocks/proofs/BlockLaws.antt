@@ -15,7 +15,8 @@ use Rattle.measure.specs.Reply.{refused, badLine}
 use Rattle.measure.specs.Epoch.{Epoch}
 use Rattle.measure.proofs.Choice.{lt-or-ge}
 use Rattle.day_lines.specs.DayLine.{lineEnd, lineLength, dayAsked}
-use Rattle.lines.specs.Line.{lineReply, lineOf, lastLine, outputFrom, output}
+use Rattle.reply_lines.specs.ReplyLine.{lineOf}
+use Rattle.lines.specs.Line.{lineReply, lastLine, outputFrom, output}
 use Rattle.lines.proofs.LineLaws.{bad-line}
 use Rattle.blocks.specs.Block.{enough}
 

@@ -31,8 +31,9 @@ use Rattle.dates.specs.Date.{dayAt, backReply}
 use Rattle.lists.specs.Records.{recordAt, recordsOf, runOf, monthsInRun, runAsked, listReply, runReply}
 use Rattle.day_lines.specs.Digits.{digitOf}
 use Rattle.day_lines.specs.DayLine.{spelled, dayAsked}
-use Rattle.lines.specs.Digits.{digitByte, digitsOf}
-use Rattle.lines.specs.Line.{lineReply, lineOf, lastLine, outputFrom, output}
+use Rattle.reply_lines.specs.Digits.{digitByte, digitsOf}
+use Rattle.reply_lines.specs.ReplyLine.{lineOf}
+use Rattle.lines.specs.Line.{lineReply, lastLine, outputFrom, output}
 use Rattle.record_bytes.specs.Bytes.{lowFirst, bytesOf}
 use Rattle.viewer.specs.Room.{roomIn}
 

@@ -1,4 +1,2 @@
-pub mod RowLaws
-pub mod DigitLaws
 pub mod LineLaws
 pub mod Unique

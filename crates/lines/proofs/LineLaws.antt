@@ -17,12 +17,13 @@ use Rattle.measure.specs.Row.{over}
 use Rattle.measure.specs.Epoch.{Epoch}
 use Rattle.measure.proofs.Choice.{passes-or-fails}
 use Rattle.measure.proofs.Row.{more-written}
-use Rattle.months.specs.Month.{Kind, ordinary, leap, MonthOfDay, earliest, latest, dayReply}
-use Rattle.lines.specs.Digits.{digitsOf}
+use Rattle.months.specs.Month.{MonthOfDay, earliest, latest, dayReply}
 use Rattle.day_lines.specs.DayLine.{lineEnd, lineLength, restAfter, dayAsked}
 use Rattle.day_lines.proofs.LineLaws.{length-most, only-bad, rest-length}
-use Rattle.lines.specs.Line.{lineReply, kindDigits, lineOf, lastLine, outputFrom, output, replyRoom, outputReply}
-use Rattle.lines.proofs.DigitLaws.{length-digits}
+use Rattle.reply_lines.specs.ReplyLine.{lineOf}
+use Rattle.reply_lines.proofs.DigitLaws.{length-digits}
+use Rattle.reply_lines.proofs.LineLaws.{month-length}
+use Rattle.lines.specs.Line.{lineReply, lastLine, outputFrom, output, replyRoom, outputReply}
 
 -- what is refused: a line that asks for no day
 pub bad-line : (e : Epoch) (line : List ℕ) (k : ℕ) → dayAsked line ≡ refused k → lineReply e line ≡ refused badLine
@@ -45,25 +46,7 @@ outside-day e line d k h g = asked-reply e line d h ∙ only (d <? earliest) (la
     only false true m f = refl
     only false false m f = cc
 
--- how long a reply is
-length-kind : (k : Kind) → length (kindDigits k) ≡ 2
-length-kind (ordinary n) = length-append (digitsOf 1 n) (digitsOf 1 0) ∙ omega (arith, length-digits 1 n, length-digits 1 0)
-length-kind (leap n) = length-append (digitsOf 1 n) (digitsOf 1 1) ∙ omega (arith, length-digits 1 n, length-digits 1 1)
-
-module _ (m : MonthOfDay) where
-  pub to-kind : length (digitsOf 3 (m .year) ++ kindDigits (m .kind)) ≡ 5
-  to-kind = simp (length-append, length-digits, length-kind)
-
-  pub to-first : length (digitsOf 3 (m .year) ++ kindDigits (m .kind) ++ digitsOf 5 (m .first)) ≡ 10
-  to-first = simp (length-append, length-digits, length-kind)
-
-  pub to-length : length (digitsOf 3 (m .year) ++ kindDigits (m .kind) ++ digitsOf 5 (m .first) ++ digitsOf 2 (m .length)) ≡ 12
-  to-length = simp (length-append, length-digits, length-kind)
-
-  pub month-length : length (lineOf (answer m)) ≡ 13
-  unfolding lineOf
-  month-length = simp (length-append, length-digits, length-kind)
-
+-- how long a refusal is
 pub refusal-length : (k : ℕ) → length (lineOf (refused k)) ≡ 3
 unfolding lineOf
 refusal-length k = simp (length-append, length-digits)

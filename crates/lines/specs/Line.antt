@@ -1,4 +1,5 @@
--- "The line program": one frame a line, one day in and one month out. How a line asks for a day is in `day_lines`.
+-- "The line program": one frame a line, one day in and one month out. How a line asks for a day is in `day_lines`,
+-- and the line of a reply in `reply_lines`.
 -- Assumes nothing.
 use mathlib.Core.List.{List, [], _∷_, _++_}
 use Prim.Native.Nat.{ℕ, _*_}
@@ -6,9 +7,9 @@ use lib.ListN.{length}
 use Rattle.measure.specs.Choice.{if_then_else_, _<?_, _=?_}
 use Rattle.measure.specs.Reply.{Reply, answer, refused, shortRow, refuseIf}
 use Rattle.measure.specs.Epoch.{Epoch}
-use Rattle.months.specs.Month.{Kind, ordinary, leap, MonthOfDay, dayReply}
+use Rattle.months.specs.Month.{MonthOfDay, dayReply}
 use Rattle.day_lines.specs.DayLine.{lineEnd, dayAsked}
-use Rattle.lines.specs.Digits.{digitsOf}
+use Rattle.reply_lines.specs.ReplyLine.{lineOf}
 
 -- a malformed line is refused before a day outside the calendar
 unfoldable pub lineReply : Epoch → List ℕ → Reply MonthOfDay
@@ -17,17 +18,6 @@ lineReply e line = asked (dayAsked line)
     asked : Reply ℕ → Reply MonthOfDay
     asked (answer d) = dayReply e d
     asked (refused k) = refused k
-
--- number and leap digit
-abbrev pub kindDigits : Kind → List ℕ
-kindDigits (ordinary n) = digitsOf 1 n ++ digitsOf 1 0
-kindDigits (leap n) = digitsOf 1 n ++ digitsOf 1 1
-
--- year 3 digits, number 1, leap 1, first day 5, length 2; a refusal is E and its number
-unfoldable pub lineOf : Reply MonthOfDay → List ℕ
-lineOf (answer m) =
-    digitsOf 3 (m .year) ++ kindDigits (m .kind) ++ digitsOf 5 (m .first) ++ digitsOf 2 (m .length) ++ (lineEnd ∷ [])
-lineOf (refused k) = digitsOf 1 0xE ++ digitsOf 1 k ++ (lineEnd ∷ [])
 
 -- what is written for the last line, where the input ends without a line end: nothing where nothing follows the line end before it
 unfoldable pub lastLine : Epoch → List ℕ → List ℕ

@@ -8,8 +8,10 @@ use Rattle.measure.specs.Reply.{Reply, answer, refused, noDay, badLine, answerS
 use Rattle.measure.specs.Epoch.{shoushi}
 use Rattle.months.specs.Month.{MonthOfDay, monthSaid, replySaid}
 use Rattle.day_lines.specs.DayLine.{dayAsked}
-use Rattle.lines.specs.Line.{lineReply, lineOf}
-use Rattle.lines.proofs.LineLaws.{bad-line, asked-reply, outside-day, month-length, refusal-length}
+use Rattle.reply_lines.specs.ReplyLine.{lineOf}
+use Rattle.reply_lines.proofs.LineLaws.{month-length}
+use Rattle.lines.specs.Line.{lineReply}
+use Rattle.lines.proofs.LineLaws.{bad-line, asked-reply, outside-day, refusal-length}
 use Rattle.lines.proofs.put_reply.Statement.{statement}
 use Rattle.lines.proofs.put_reply.Tie as tie
 

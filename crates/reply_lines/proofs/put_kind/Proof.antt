@@ -1,13 +1,13 @@
--- `lines::put_kind` meets its contract. Assumes nothing.
+-- `reply_lines::put_kind` meets its contract. Assumes nothing.
 use mathlib.Core.Path.{_∙_, sym, ap}
 use borrow.Author.Needs.{needs}
 use denote.Ref.{now}
 use Rattle.measure.specs.Row.{over}
 use Rattle.months.specs.Month.{kindSaid}
 use Rattle.months.specs.declared.Kind.{Kind}
-use Rattle.lines.specs.Line.{kindDigits}
-use Rattle.lines.proofs.put_kind.Statement.{statement}
-use Rattle.lines.proofs.put_kind.Tie as tie
+use Rattle.reply_lines.specs.ReplyLine.{kindDigits}
+use Rattle.reply_lines.proofs.put_kind.Statement.{statement}
+use Rattle.reply_lines.proofs.put_kind.Tie as tie
 
 enum-known-kind : tie.Need-enum-known-kind
 enum-known-kind c = search needs

@@ -5,7 +5,7 @@ use mathlib.Core.List.{[], _∷_}
 use Prim.Native.Nat.{ℕ, zero, suc, _/_, _%_}
 use native.Mathlib.Omega.{arith}
 use lib.ListN.{length, length-append}
-use Rattle.lines.specs.Digits.{digitByte, digitsOf}
+use Rattle.reply_lines.specs.Digits.{digitByte, digitsOf}
 
 pub length-digits : (w n : ℕ) → length (digitsOf w n) ≡ w
 unfolding digitsOf

@@ -1,4 +1,4 @@
--- `lines::put_month` meets its contract. Assumes nothing.
+-- `reply_lines::put_month` meets its contract. Assumes nothing.
 use mathlib.Core.Path.{_∙_, refl, ap}
 use mathlib.Core.List.{_++_}
 use Prim.Native.Nat.{_≤_}
@@ -9,12 +9,12 @@ use lib.ListN.{length}
 use Rattle.measure.specs.Reply.{answer}
 use Rattle.measure.proofs.Row.{put, grow, length-over}
 use Rattle.months.specs.Month.{monthSaid}
-use Rattle.lines.specs.Digits.{digitsOf}
-use Rattle.lines.specs.Line.{kindDigits, lineOf}
-use Rattle.lines.proofs.DigitLaws.{length-digits}
-use Rattle.lines.proofs.LineLaws.{to-kind, to-first, to-length, month-length}
-use Rattle.lines.proofs.put_month.Statement.{statement}
-use Rattle.lines.proofs.put_month.Tie as tie
+use Rattle.reply_lines.specs.Digits.{digitsOf}
+use Rattle.reply_lines.specs.ReplyLine.{kindDigits, lineOf}
+use Rattle.reply_lines.proofs.DigitLaws.{length-digits}
+use Rattle.reply_lines.proofs.LineLaws.{to-kind, to-first, to-length, month-length}
+use Rattle.reply_lines.proofs.put_month.Statement.{statement}
+use Rattle.reply_lines.proofs.put_month.Tie as tie
 
 put-digits-requires : tie.Need-put-digits-requires
 put-digits-requires c κs = search needs

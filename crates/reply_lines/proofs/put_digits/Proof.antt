@@ -1,15 +1,15 @@
--- `lines::put_digits` meets its contract. Assumes nothing.
+-- `reply_lines::put_digits` meets its contract. Assumes nothing.
 use mathlib.Core.Path.{_≡_, _∙_, refl, sym, ap}
 use Prim.Native.Nat.{ℕ, suc, _-_, _/_, _%_, _≤_}
 use native.Mathlib.Omega.{arith}
 use borrow.Author.Needs.{needs}
 use lib.ListN.{length, set, length-set}
 use Rattle.measure.specs.Row.{over}
-use Rattle.lines.specs.Digits.{digitByte, digitsOf}
-use Rattle.lines.proofs.DigitLaws.{length-digits}
-use Rattle.lines.proofs.RowLaws.{put-before}
-use Rattle.lines.proofs.put_digits.Statement.{statement}
-use Rattle.lines.proofs.put_digits.Tie as tie
+use Rattle.reply_lines.specs.Digits.{digitByte, digitsOf}
+use Rattle.reply_lines.proofs.DigitLaws.{length-digits}
+use Rattle.reply_lines.proofs.RowLaws.{put-before}
+use Rattle.reply_lines.proofs.put_digits.Statement.{statement}
+use Rattle.reply_lines.proofs.put_digits.Tie as tie
 
 -- the digits still to be written, over the row as it is, make the whole
 abbrev Inv-loop : tie.InvT-loop

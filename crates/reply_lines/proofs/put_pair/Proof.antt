@@ -1,11 +1,11 @@
--- `lines::put_pair` meets its contract. Assumes nothing.
+-- `reply_lines::put_pair` meets its contract. Assumes nothing.
 use borrow.Author.Needs.{needs}
 use denote.Ref.{now}
 use Rattle.measure.proofs.Row.{grow}
-use Rattle.lines.specs.Digits.{digitsOf}
-use Rattle.lines.proofs.DigitLaws.{length-digits}
-use Rattle.lines.proofs.put_pair.Statement.{statement}
-use Rattle.lines.proofs.put_pair.Tie as tie
+use Rattle.reply_lines.specs.Digits.{digitsOf}
+use Rattle.reply_lines.proofs.DigitLaws.{length-digits}
+use Rattle.reply_lines.proofs.put_pair.Statement.{statement}
+use Rattle.reply_lines.proofs.put_pair.Tie as tie
 
 put-digits-requires : tie.Need-put-digits-requires
 put-digits-requires c κs = search needs

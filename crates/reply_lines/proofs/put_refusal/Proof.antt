@@ -1,13 +1,13 @@
--- `lines::put_refusal` meets its contract. Assumes nothing.
+-- `reply_lines::put_refusal` meets its contract. Assumes nothing.
 use mathlib.Core.Path.{refl}
 use native.Mathlib.Omega.{arith}
 use borrow.Author.Needs.{needs}
 use denote.Ref.{now}
 use Rattle.measure.proofs.Row.{put}
-use Rattle.lines.specs.Digits.{digitsOf}
-use Rattle.lines.specs.Line.{lineOf}
-use Rattle.lines.proofs.put_refusal.Statement.{statement}
-use Rattle.lines.proofs.put_refusal.Tie as tie
+use Rattle.reply_lines.specs.Digits.{digitsOf}
+use Rattle.reply_lines.specs.ReplyLine.{lineOf}
+use Rattle.reply_lines.proofs.put_refusal.Statement.{statement}
+use Rattle.reply_lines.proofs.put_refusal.Tie as tie
 
 put-pair-requires : tie.Need-put-pair-requires
 put-pair-requires c κs = search needs

@@ -1,9 +1,9 @@
--- `lines::digit_byte` meets its contract. Assumes nothing.
+-- `reply_lines::digit_byte` meets its contract. Assumes nothing.
 use borrow.Author.Tests.{lt-ltb, le-ltb}
 use borrow.Author.Needs.{needs}
-use Rattle.lines.specs.Digits.{digitByte}
-use Rattle.lines.proofs.digit_byte.Statement.{statement}
-use Rattle.lines.proofs.digit_byte.Tie as tie
+use Rattle.reply_lines.specs.Digits.{digitByte}
+use Rattle.reply_lines.proofs.digit_byte.Statement.{statement}
+use Rattle.reply_lines.proofs.digit_byte.Tie as tie
 
 add-result : tie.Need-add-result
 add-result c = search needs
