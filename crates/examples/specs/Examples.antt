@@ -22,7 +22,8 @@ use Rattle.month_law.specs.Steps.{seek}
 use Rattle.month_law.specs.Count.{count}
 use Rattle.month_law.specs.Calendar.{nameOf, lengthOf, monthOf, head, monthsIn, held, leapAt, numberAt}
 use Rattle.month_law.specs.Edition.{middleDay, calendar}
-use Rattle.months.specs.Month.{leap, kindAt}
+use Rattle.kinds.specs.Kind.{leap}
+use Rattle.months.specs.Month.{kindAt}
 
 pub record Examples : Type 0 where
   -- year 0: solstice day 55, remainder 6,000,000 wei, name 55 (jiwei)

@@ -26,7 +26,8 @@ use Rattle.month_law.specs.Count.{count}
 use Rattle.month_law.specs.Calendar.{nameOf, monthOf, head, yearOf, held, leapAt, numberAt}
 use Rattle.month_law.specs.Edition.{middleDay, calendar}
 use Rattle.months.specs.Head.{headReply}
-use Rattle.months.specs.Month.{ordinary, leap, kindAt, placed, monthOfDay, dayReply}
+use Rattle.kinds.specs.Kind.{ordinary, leap}
+use Rattle.months.specs.Month.{kindAt, placed, monthOfDay, dayReply}
 use Rattle.dates.specs.Date.{dayAt, backReply}
 use Rattle.lists.specs.Records.{recordAt, recordsOf, runOf, monthsInRun, runAsked, listReply, runReply}
 use Rattle.day_lines.specs.Digits.{digitOf}

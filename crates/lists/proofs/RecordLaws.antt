@@ -13,7 +13,8 @@ use Rattle.month_law.specs.Calendar.{Calendar, head, monthsIn, yearOf, leapAt, 
 use Rattle.month_law.specs.Lawful.{Lawful}
 use Rattle.month_law.proofs.Lists.{place-listed, listed-place, months-in-most}
 use Rattle.month_law.proofs.Runs.{year-of}
-use Rattle.months.specs.Month.{Kind, ordinary, leap, kindAt, numberIn, markIn}
+use Rattle.kinds.specs.Kind.{Kind, ordinary, leap, numberIn, markIn}
+use Rattle.months.specs.Month.{kindAt}
 use Rattle.months.specs.Span.{LastBefore, kindBy}
 use Rattle.lists.specs.Records.{recordWidth, yearRoom, recordAt, recordOf, recordsOf, runOf, monthsInRun}
 use Rattle.months.proofs.ByTerm.{year-told, year-is, kind-told}

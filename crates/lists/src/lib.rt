@@ -1,4 +1,6 @@
 // A year's list and a run of years, as month records in a lent row of numbers.
+use kinds::leap_mark;
+use kinds::number_in;
 use measure::Answer;
 use measure::LAST_YEAR;
 use measure::NO_YEAR;
@@ -8,9 +10,7 @@ use months::first_day;
 use months::head_span;
 use months::kind_by;
 use months::last_term;
-use months::leap_mark;
 use months::middle_day;
-use months::number_in;
 ghost use mathlib.Core.Path.{_≡_};
 ghost use mathlib.Core.List.{[], _∷_};
 ghost use Prim.Native.Nat.{suc, _+_, _*_, _/_, _≤_};

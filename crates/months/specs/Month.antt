@@ -6,16 +6,10 @@ use Rattle.measure.specs.Reply.{Reply, answer, refused, noDay, refuseIf}
 use Rattle.measure.specs.Epoch.{Epoch}
 use Rattle.month_law.specs.Calendar.{Calendar, lengthOf, monthOf, head, yearOf, leapAt, numberAt}
 use Rattle.month_law.specs.Edition.{calendar}
-use Rattle.months.specs.declared.Kind.{Kind as KindCase}
-use Rattle.months.specs.declared.Kind.the-variants.{Ordinary, Leap}
+use Rattle.kinds.specs.Kind.{Kind, ordinary, leap, kindSaid}
 use Rattle.months.specs.declared.Month.{Month}
 use Rattle.months.specs.declared.Reply.{Reply as ReplyCase}
 use Rattle.months.specs.declared.Reply.the-variants.{Month as InMonth, Refused}
-
--- a month is either ordinary or leap, with its number inside
-pub data Kind : Type 0 where
-  ordinary : ℕ → Kind
-  leap : ℕ → Kind
 
 -- the month that a day lies in; places count from 0, days of a month from 1
 pub record MonthOfDay : Type 0 where
@@ -60,19 +54,6 @@ unfoldable pub dayReply : Epoch → ℕ → Reply MonthOfDay
 dayReply e d = refuseIf (d <? earliest) noDay (refuseIf (latest <? d) noDay (answer (monthOfDay (calendar e) d)))
 
 -- the paper's month and reply that each case stands for
-abbrev pub kindSaid : KindCase → Kind
-kindSaid (Ordinary n) = ordinary n
-kindSaid (Leap n) = leap n
-
--- the number and the leap mark of each
-abbrev pub numberIn : Kind → ℕ
-numberIn (ordinary n) = n
-numberIn (leap n) = n
-
-abbrev pub markIn : Kind → ℕ
-markIn (ordinary n) = 0
-markIn (leap n) = 1
-
 abbrev pub monthSaid : Month → MonthOfDay
 monthSaid m =
     record {

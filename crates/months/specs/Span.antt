@@ -3,7 +3,7 @@
 use Prim.Native.Nat.{ℕ, suc, _≤_, _<_}
 use Rattle.measure.specs.Choice.{if_then_else_, _<?_}
 use Rattle.month_law.specs.Calendar.{Calendar, nameOf}
-use Rattle.months.specs.Month.{Kind, ordinary, leap}
+use Rattle.kinds.specs.Kind.{Kind, ordinary, leap}
 use Rattle.months.specs.declared.Span.{Span}
 
 -- month l, with its first day and that of the next

@@ -1,4 +1,5 @@
 // The head of a year and a day's month.
+use kinds::Kind;
 use measure::Answer;
 use measure::DAY;
 use measure::LAST_YEAR;
@@ -18,14 +19,9 @@ ghost use Rattle.moons.specs.TrueMoon.{firstDay};
 ghost use Rattle.month_law.specs.Calendar.{monthOf, head};
 ghost use Rattle.month_law.specs.Edition.{middleDay, calendar};
 ghost use Rattle.months.specs.Head.{headReply};
-ghost use Rattle.months.specs.Month.{earliest, latest, monthOfDay, dayReply, kindSaid, numberIn, markIn, monthSaid, replySaid};
+ghost use Rattle.kinds.specs.Kind.{kindSaid, numberIn, markIn};
+ghost use Rattle.months.specs.Month.{earliest, latest, monthOfDay, dayReply, monthSaid, replySaid};
 ghost use Rattle.months.specs.Span.{spanOf, kindBy, LastBefore};
-
-// A month is ordinary or leap, with its number inside.
-pub enum Kind {
-    Ordinary(u64),
-    Leap(u64),
-}
 
 // The month of a day: places count from 0, days of a month from 1.
 pub struct Month {
@@ -180,25 +176,5 @@ fn month_in(span: Span, d: u64) -> Month
         day: d - first + 1,
         first,
         length: next - first,
-    }
-}
-
-// The number of a month, ordinary or leap.
-pub fn number_in(kind: Kind) -> u64
-    ensures { λ r. ⌜ r ≡ numberIn (kindSaid kind) ⌝ }
-{
-    match kind {
-        Kind::Ordinary(number) => number,
-        Kind::Leap(repeated) => repeated,
-    }
-}
-
-// A month's leap mark: 1 where it is leap, else 0.
-pub fn leap_mark(kind: Kind) -> u64
-    ensures { λ r. ⌜ r ≡ markIn (kindSaid kind) ⌝ }
-{
-    match kind {
-        Kind::Ordinary(_) => 0,
-        Kind::Leap(_) => 1,
     }
 }

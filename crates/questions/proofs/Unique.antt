@@ -3,48 +3,12 @@ use mathlib.Core.List.{List, [], _∷_}
 use mathlib.Core.Path.{_≡_, refl}
 use Prim.Native.Nat.{ℕ}
 use Rattle.measure.proofs.Determined.{OneReply, read-back}
-use Rattle.months.specs.Month.{Kind, ordinary, leap, MonthOfDay, kindSaid, monthSaid}
-use Rattle.months.specs.declared.Kind.{Kind as KindCase}
-use Rattle.months.specs.declared.Kind.the-variants.{Ordinary, Leap}
-use Rattle.months.specs.declared.Month.{Month as MonthCase}
+use Rattle.months.proofs.Unique.{monthMeant, month-back}
 use Rattle.questions.specs.Told.{Told, refusal, nothing, numbers, signed, month, moment, terms, year, years, constants, help, toldIn}
 use Rattle.questions.specs.declared.Reply.{Reply}
 use Rattle.questions.specs.declared.Reply.the-variants.{Refused, Nothing, One, Two, Three, Signed, Month, Moment, Terms, Year, Years, Constants, Help}
 use Rattle.questions.proofs.ask.Kinds as ask
 use Rattle.questions.proofs.ask.Reads as ask-reads
-
-kindMeant : Kind → KindCase
-kindMeant (ordinary n) = Ordinary n
-kindMeant (leap n) = Leap n
-
-kind-back : (k : KindCase) → kindMeant (kindSaid k) ≡ k
-unfolding kindMeant
-kind-back (Ordinary n) = refl
-kind-back (Leap n) = refl
-
-monthMeant : MonthOfDay → MonthCase
-monthMeant m =
-    record {
-      kind = kindMeant (m .kind);
-      year = m .year;
-      place = m .place;
-      day = m .day;
-      first = m .first;
-      length = m .length;
-    }
-
-month-back : (m : MonthCase) → monthMeant (monthSaid m) ≡ m
-unfolding monthMeant
-month-back m =
-    λ i.
-    record {
-      kind = kind-back (m .kind) i;
-      year = m .year;
-      place = m .place;
-      day = m .day;
-      first = m .first;
-      length = m .length;
-    }
 
 -- no reply tells no number, or more than three
 numbersMeant : List ℕ → Reply

@@ -68,8 +68,8 @@ fn record_of(l: u64, i: usize) -> MonthRecord
     MonthRecord {
         first,
         length: next - first,
-        number: months::number_in(kind),
-        leap: months::leap_mark(kind),
+        number: kinds::number_in(kind),
+        leap: kinds::leap_mark(kind),
     }
 }
 

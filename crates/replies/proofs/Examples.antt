@@ -4,7 +4,7 @@ use mathlib.Core.List.{[], _∷_}
 use mathlib.Core.Path.{_≡_, refl}
 use lib.IntN.{pos, negsuc}
 use Rattle.measure.specs.Reply.{answer, refused}
-use Rattle.months.specs.Month.{leap}
+use Rattle.kinds.specs.Kind.{leap}
 use Rattle.questions.specs.Told.{refusal, nothing, numbers, signed, month, moment, constants}
 use Rattle.words.specs.Ascii.{bytesOf}
 use Rattle.texts.specs.Text.{decimalIn, decimal, piece, taken, filled}

@@ -14,7 +14,8 @@ use mir.Val.{SFits, ofZ, toZ}
 use mir.Facts.{toZ-ofZ}
 use Rattle.measure.specs.Row.{over}
 use Rattle.measure.specs.Days.{dayOf, remainderOf, sixtyName}
-use Rattle.months.specs.Month.{numberIn, markIn, kindSaid, monthSaid}
+use Rattle.kinds.specs.Kind.{numberIn, markIn, kindSaid}
+use Rattle.months.specs.Month.{monthSaid}
 use Rattle.months.specs.declared.Month.{Month}
 use Rattle.questions.specs.Told.{toldIn}
 use Rattle.questions.specs.declared.Reply.{Reply as ReplyCase}

@@ -9,7 +9,8 @@ use Rattle.measure.specs.Reply.{Reply, answer, shortRow, refuseIf}
 use Rattle.measure.specs.Units.{day as oneDay, fen, miao, year as solarYear, halfYear, month as lunarMonth, quarterStep, termStep, pentadStep, earthStep, anomalisticMonth, anomalisticHalf}
 use Rattle.measure.specs.Epoch.{shoushi}
 use Rattle.measure.specs.Days.{dayOf, remainderOf, sixtyName}
-use Rattle.months.specs.Month.{MonthOfDay, numberIn, markIn}
+use Rattle.kinds.specs.Kind.{numberIn, markIn}
+use Rattle.months.specs.Month.{MonthOfDay}
 use Rattle.words.specs.Ascii.{bytesOf}
 use Rattle.texts.specs.Text.{filled}
 use Rattle.list_texts.specs.ListText.{refusalText, numbersText, termsText, yearText, yearsText, lineRoom, yearsRoom}

@@ -128,8 +128,8 @@ fn put_month(m: Month, row: &mut [u8]) -> usize
     ensures { λ _. ⌜ now (row .exit) ≡ over (monthText (monthSaid m)) (now (row .entry)) ⌝ }
 {
     let kind = m.kind;
-    let number = months::number_in(kind);
-    let mark = months::leap_mark(kind);
+    let number = kinds::number_in(kind);
+    let mark = kinds::leap_mark(kind);
     fill(
         b"% % % % % % %\n",
         &[m.year, m.place, m.day, m.first, m.length, number, mark],

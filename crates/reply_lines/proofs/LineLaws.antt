@@ -5,7 +5,8 @@ use mathlib.Core.List.{_++_}
 use native.Mathlib.Omega.{arith}
 use lib.ListN.{length, length-append}
 use Rattle.measure.specs.Reply.{answer}
-use Rattle.months.specs.Month.{Kind, ordinary, leap, MonthOfDay}
+use Rattle.kinds.specs.Kind.{Kind, ordinary, leap}
+use Rattle.months.specs.Month.{MonthOfDay}
 use Rattle.reply_lines.specs.Digits.{digitsOf}
 use Rattle.reply_lines.specs.ReplyLine.{kindDigits, lineOf}
 use Rattle.reply_lines.proofs.DigitLaws.{length-digits}

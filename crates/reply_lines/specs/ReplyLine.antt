@@ -3,7 +3,8 @@
 use mathlib.Core.List.{List, [], _∷_, _++_}
 use Prim.Native.Nat.{ℕ}
 use Rattle.measure.specs.Reply.{Reply, answer, refused}
-use Rattle.months.specs.Month.{Kind, ordinary, leap, MonthOfDay}
+use Rattle.kinds.specs.Kind.{Kind, ordinary, leap}
+use Rattle.months.specs.Month.{MonthOfDay}
 use Rattle.day_lines.specs.DayLine.{lineEnd}
 use Rattle.reply_lines.specs.Digits.{digitsOf}
 

@@ -1,6 +1,6 @@
 // The line of a reply, in hexadecimal digits: a month's, and a refusal's.
 use day_lines::LINE_END;
-use months::Kind;
+use kinds::Kind;
 use months::Month;
 ghost use mathlib.Core.Path.{_≡_};
 ghost use mathlib.Core.List.{_++_};
@@ -8,7 +8,8 @@ ghost use Prim.Native.Nat.{_≤_, _<_};
 ghost use lib.ListN.{length};
 ghost use Rattle.measure.specs.Reply.{answer, refused};
 ghost use Rattle.measure.specs.Row.{over};
-ghost use Rattle.months.specs.Month.{kindSaid, monthSaid};
+ghost use Rattle.kinds.specs.Kind.{kindSaid};
+ghost use Rattle.months.specs.Month.{monthSaid};
 ghost use Rattle.reply_lines.specs.Digits.{digitByte, digitsOf};
 ghost use Rattle.reply_lines.specs.ReplyLine.{kindDigits, lineOf};
 

@@ -16,7 +16,8 @@ use Rattle.month_law.proofs.Terms.{InList}
 use Rattle.month_law.proofs.Lists.{months-in-most}
 use Rattle.month_law.proofs.Runs.{year-listed}
 use Rattle.month_law.proofs.Edition.{figures, shoushi-lawful}
-use Rattle.months.specs.Month.{Kind, ordinary, leap, MonthOfDay, earliest, latest, numberIn, markIn, kindAt, placed, monthOfDay, dayReply}
+use Rattle.kinds.specs.Kind.{Kind, ordinary, leap, numberIn, markIn}
+use Rattle.months.specs.Month.{MonthOfDay, earliest, latest, kindAt, placed, monthOfDay, dayReply}
 use Rattle.months.proofs.Reach.{month-held, month-most}
 use Rattle.viewer.specs.Told.{Fits}
 

@@ -18,7 +18,8 @@ use Rattle.month_law.specs.Edition.{calendar}
 use Rattle.month_law.proofs.Rising.{rises-weakly}
 use Rattle.month_law.proofs.Months.{first-rises}
 use Rattle.month_law.proofs.Edition.{figures, shoushi-lawful}
-use Rattle.months.specs.Month.{Kind, ordinary, leap, MonthOfDay, numberIn, markIn, dayReply}
+use Rattle.kinds.specs.Kind.{Kind, ordinary, leap, numberIn, markIn}
+use Rattle.months.specs.Month.{MonthOfDay, dayReply}
 use Rattle.lists.specs.Records.{yearRoom, recordAt, recordsOf, listReply}
 use Rattle.months.proofs.Reach.{list-most}
 use Rattle.record_bytes.specs.Bytes.{bytesOf}

@@ -2,7 +2,8 @@
 -- Assumes nothing.
 use Prim.Native.Nat.{ℕ, _<_}
 use Rattle.measure.specs.Reply.{Reply, answer, refused}
-use Rattle.months.specs.Month.{MonthOfDay, numberIn, markIn}
+use Rattle.kinds.specs.Kind.{numberIn, markIn}
+use Rattle.months.specs.Month.{MonthOfDay}
 use Rattle.viewer.specs.declared.Day.{Day}
 use Rattle.viewer.specs.declared.Count.{Count}
 

@@ -90,8 +90,8 @@ fn month_told(m: Month) -> Day
         place: m.place as u8,
         day: m.day as u8,
         length: m.length as u8,
-        number: months::number_in(kind) as u8,
-        leap: months::leap_mark(kind) as u8,
+        number: kinds::number_in(kind) as u8,
+        leap: kinds::leap_mark(kind) as u8,
         refused: 0,
     }
 }

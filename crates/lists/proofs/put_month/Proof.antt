@@ -8,7 +8,7 @@ use Rattle.measure.specs.Epoch.{shoushi}
 use Rattle.month_law.specs.Calendar.{Calendar}
 use Rattle.month_law.specs.Edition.{calendar}
 use Rattle.month_law.proofs.Edition.{shoushi-lawful}
-use Rattle.months.specs.Month.{Kind, kindSaid, numberIn, markIn}
+use Rattle.kinds.specs.Kind.{Kind, kindSaid, numberIn, markIn}
 use Rattle.months.specs.Span.{spanOf, kindBy, LastBefore}
 use Rattle.lists.specs.Records.{recordOf}
 use Rattle.months.specs.declared.Span.{Span}

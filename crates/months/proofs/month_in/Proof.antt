@@ -8,7 +8,8 @@ use Rattle.measure.specs.Epoch.{shoushi}
 use Rattle.month_law.specs.Calendar.{Calendar, monthOf, head}
 use Rattle.month_law.specs.Edition.{calendar}
 use Rattle.month_law.proofs.Edition.{shoushi-lawful}
-use Rattle.months.specs.Month.{Kind, MonthOfDay, earliest, latest, monthOfDay, kindSaid}
+use Rattle.kinds.specs.Kind.{Kind, kindSaid}
+use Rattle.months.specs.Month.{MonthOfDay, earliest, latest, monthOfDay}
 use Rattle.months.specs.Span.{spanOf, kindBy, LastBefore}
 use Rattle.months.specs.declared.Span.{Span}
 use Rattle.months.proofs.Reach.{month-held, month-most, end-small, term-small}

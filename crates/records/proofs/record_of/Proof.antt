@@ -11,7 +11,8 @@ use Rattle.month_law.specs.Edition.{calendar}
 use Rattle.month_law.proofs.Months.{first-rises}
 use Rattle.month_law.proofs.Terms.{one-come}
 use Rattle.month_law.proofs.Edition.{shoushi-lawful}
-use Rattle.months.specs.Month.{Kind, latest, numberIn, markIn, kindSaid}
+use Rattle.kinds.specs.Kind.{Kind, numberIn, markIn, kindSaid}
+use Rattle.months.specs.Month.{latest}
 use Rattle.months.specs.Span.{LastBefore, kindBy}
 use Rattle.lists.specs.Records.{recordOf}
 use Rattle.months.proofs.Reach.{first-most, term-small}

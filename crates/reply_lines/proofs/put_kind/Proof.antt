@@ -3,8 +3,8 @@ use mathlib.Core.Path.{_∙_, sym, ap}
 use borrow.Author.Needs.{needs}
 use denote.Ref.{now}
 use Rattle.measure.specs.Row.{over}
-use Rattle.months.specs.Month.{kindSaid}
-use Rattle.months.specs.declared.Kind.{Kind}
+use Rattle.kinds.specs.Kind.{kindSaid}
+use Rattle.kinds.specs.declared.Kind.{Kind}
 use Rattle.reply_lines.specs.ReplyLine.{kindDigits}
 use Rattle.reply_lines.proofs.put_kind.Statement.{statement}
 use Rattle.reply_lines.proofs.put_kind.Tie as tie
