@@ -1,4 +1,4 @@
--- Laws of lists as text: what is written is the text, and the terms of a year that were asked for.
+-- Laws of lists as text: the terms of a year that were asked for.
 -- Assumes nothing.
 use mathlib.Core.List.{List, _++_}
 use mathlib.Core.Path.{_≡_, _∙_, sym, ap}
@@ -13,12 +13,8 @@ use Rattle.seasons.specs.Terms.{terms, term, termList}
 use Rattle.words.specs.Ascii.{bytesOf}
 use Rattle.texts.specs.Text.{taken, filled}
 use Rattle.texts.proofs.TextLaws.{holes, filled-enough}
-use Rattle.list_texts.specs.ListText.{blankHoles, numberHoles, refusalText, numbersText, listText}
-
--- what is written is the text
-pub told-so : {new text now : List ℕ} {r : ℕ} (row : List ℕ) → new ≡ text → (r ≡ length new) × (now ≡ over new row)
-    → (r ≡ length text) × (now ≡ over text row)
-told-so row e h = (h .0 ∙ ap length e, h .1 ∙ ap (λ (l : List ℕ). over l row) e)
+use Rattle.line_texts.specs.LineText.{blankHoles, numberHoles, refusalText, numbersText}
+use Rattle.list_texts.specs.ListText.{listText}
 
 -- the terms of a year that were asked for
 pub terms-text : (reply : Reply ℕ) (n k : ℕ) (row now : List ℕ) → reply ≡ answer k → now ≡ rowAfter reply (termList shoushi n) row

@@ -22,7 +22,8 @@ use Rattle.lists.proofs.Asked.{run-admitted}
 use Rattle.words.specs.Ascii.{bytesOf}
 use Rattle.texts.specs.Text.{piece, taken, filled}
 use Rattle.texts.proofs.TextLaws.{holes, holes-append, filled-append, filled-enough}
-use Rattle.list_texts.specs.ListText.{recordHoles, recordsHoles, refusalText, recordsText, mostRecords}
+use Rattle.line_texts.specs.LineText.{refusalText}
+use Rattle.list_texts.specs.ListText.{recordHoles, recordsHoles, recordsText, mostRecords}
 
 abbrev c : Calendar
 c = calendar shoushi

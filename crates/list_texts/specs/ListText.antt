@@ -1,9 +1,8 @@
--- The line of text that is written for a list of numbers, for the terms of a year and for the months of years, or for a refusal, and the
--- room that it asks for.
+-- The line of text that is written for the terms of a year and for the months of years, or for their refusal, and the room that it asks
+-- for.
 -- Assumes nothing.
-use mathlib.Core.List.{List, [], _∷_, _++_}
+use mathlib.Core.List.{List, [], _++_}
 use Prim.Native.Nat.{ℕ, zero, suc, _*_}
-use lib.ListN.{length}
 use Rattle.measure.specs.Reply.{Reply, answer, refused}
 use Rattle.measure.specs.Units.{lastYear}
 use Rattle.measure.specs.Epoch.{shoushi}
@@ -13,16 +12,7 @@ use Rattle.month_law.specs.Edition.{calendar}
 use Rattle.lists.specs.Records.{yearRoom, recordsOf, runOf, listReply, runReply}
 use Rattle.words.specs.Ascii.{bytesOf}
 use Rattle.texts.specs.Text.{filled}
-
--- so many holes, each with a blank before it
-unfoldable pub blankHoles : ℕ → List ℕ
-blankHoles zero = []
-blankHoles (suc k) = bytesOf " %" ++ blankHoles k
-
--- so many holes, with single blanks between them
-unfoldable pub numberHoles : ℕ → List ℕ
-numberHoles zero = []
-numberHoles (suc k) = bytesOf "%" ++ blankHoles k
+use Rattle.line_texts.specs.LineText.{refusalText, numbersText}
 
 -- the record at a place: first day, length, number and leap mark of a month. A blank stands before each but the first
 unfoldable pub recordHoles : ℕ → List ℕ
@@ -33,12 +23,6 @@ recordHoles (suc i) = bytesOf " %:%:%:%"
 unfoldable pub recordsHoles : ℕ → List ℕ
 recordsHoles zero = []
 recordsHoles (suc k) = recordsHoles k ++ recordHoles k
-
-unfoldable pub refusalText : ℕ → List ℕ
-refusalText k = filled (bytesOf "refused %\n") (k ∷ [])
-
-unfoldable pub numbersText : List ℕ → List ℕ
-numbersText ns = filled (numberHoles (length ns) ++ bytesOf "\n") ns
 
 -- numbers that were asked for, or the refusal
 unfoldable pub listText : Reply ℕ → List ℕ → List ℕ
@@ -69,9 +53,6 @@ yearsText n k = recordsText (runReply shoushi n k mostRecords) (runOf (calendar 
 abbrev pub recordRoom : ℕ
 recordRoom = 160
 
--- room for one line, and for the records of all years: 160 bytes for each, and 20 for the line end
-abbrev pub lineRoom : ℕ
-lineRoom = 16_384
-
+-- room for the records of all years: 160 bytes for each, and 20 for the line end
 abbrev pub yearsRoom : ℕ
 yearsRoom = 2_097_152

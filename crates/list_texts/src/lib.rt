@@ -1,4 +1,5 @@
-// The lines of lists: the terms of a year, and the months of years as records; and that of a refusal.
+// The lines of lists: the terms of a year, and the months of years as records.
+use line_texts::put_refusal;
 use lists::RECORD_WIDTH;
 use measure::Answer;
 use texts::fill;
@@ -9,15 +10,8 @@ ghost use Rattle.measure.specs.Row.{over};
 ghost use Rattle.measure.specs.Reply.{answer};
 ghost use Rattle.texts.specs.Text.{filled};
 ghost use Rattle.lists.specs.Records.{recordWidth};
-ghost use Rattle.list_texts.specs.ListText.{recordHoles, refusalText, recordsText, termsText, yearText, yearsText, recordRoom, lineRoom, yearsRoom};
-
-pub fn put_refusal(k: u64, row: &mut [u8]) -> usize
-    requires { ⌜ lineRoom ≤ length (now row) ⌝ }
-    ensures { λ n. ⌜ n ≡ length (refusalText k) ⌝ }
-    ensures { λ _. ⌜ now (row .exit) ≡ over (refusalText k) (now (row .entry)) ⌝ }
-{
-    fill(b"refused %\n", &[k], row)
-}
+ghost use Rattle.line_texts.specs.LineText.{lineRoom};
+ghost use Rattle.list_texts.specs.ListText.{recordHoles, recordsText, termsText, yearText, yearsText, recordRoom, yearsRoom};
 
 pub fn put_terms(n: u64, row: &mut [u8]) -> usize
     requires { ⌜ lineRoom ≤ length (now row) ⌝ }

@@ -8,8 +8,9 @@ use Rattle.kinds.specs.Kind.{leap}
 use Rattle.questions.specs.Told.{refusal, nothing, numbers, signed, month, moment, constants}
 use Rattle.words.specs.Ascii.{bytesOf}
 use Rattle.texts.specs.Text.{decimalIn, decimal, piece, taken, filled}
-use Rattle.list_texts.specs.ListText.{blankHoles, numberHoles, recordHoles, recordsHoles, refusalText, numbersText, recordsText}
-use Rattle.replies.specs.ReplyText.{signedText, monthText, momentText, constantsText, replyText}
+use Rattle.line_texts.specs.LineText.{blankHoles, numberHoles, refusalText, numbersText, signedText, monthText, momentText}
+use Rattle.list_texts.specs.ListText.{recordHoles, recordsHoles, recordsText}
+use Rattle.replies.specs.ReplyText.{constantsText, replyText}
 
 -- a refusal, and what there is none of
 refusal-told : replyText (refusal 5) ≡ bytesOf "refused 5\n"

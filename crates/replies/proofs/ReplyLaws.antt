@@ -1,58 +1,15 @@
--- Laws of replies: the numbers of a reply told one by one, and a number's sign.
+-- Laws of replies: a reply in the case that it is.
 -- Assumes nothing.
-use mathlib.Core.Bool.{true, false, false≢true}
-use mathlib.Core.List.{List, [], _∷_}
+use mathlib.Core.List.{List}
 use mathlib.Core.Path.{_≡_, sym, ap}
-use Prim.Native.Nat.{ℕ, suc, _≤_}
-use native.Mathlib.Nat.{not-suc-le-zero}
-use borrow.Author.Tests.{ltb-true}
-use lib.IntN.{ℤ, pos, negsuc, natAbs}
-use lib.Signed.{ltZ}
+use Prim.Native.Nat.{ℕ, _≤_}
 use lib.ListN.{length}
-use mir.Syntax.{w64}
-use mir.Val.{SFits, ofZ, toZ}
-use mir.Facts.{toZ-ofZ}
 use Rattle.measure.specs.Row.{over}
-use Rattle.measure.specs.Days.{dayOf, remainderOf, sixtyName}
-use Rattle.kinds.specs.Kind.{numberIn, markIn, kindSaid}
-use Rattle.months.specs.Month.{monthSaid}
-use Rattle.months.specs.declared.Month.{Month}
 use Rattle.questions.specs.Told.{toldIn}
 use Rattle.questions.specs.declared.Reply.{Reply as ReplyCase}
-use Rattle.words.specs.Ascii.{bytesOf}
-use Rattle.texts.specs.Text.{filled}
-use Rattle.list_texts.proofs.ListLaws.{told-so}
-use Rattle.replies.specs.ReplyText.{signedText, monthText, momentText, replyText, roomOf}
+use Rattle.line_texts.proofs.LineLaws.{told-so}
+use Rattle.replies.specs.ReplyText.{replyText, roomOf}
 
-pub moment-text : (t d r n : ℕ) → d ≡ dayOf t → r ≡ remainderOf t → n ≡ sixtyName d
-    → filled (bytesOf "% % % %\n") (t ∷ d ∷ r ∷ n ∷ []) ≡ momentText t
-unfolding momentText
-moment-text t d r n e f g = cc
-
-pub month-text : (m : Month) (n k : ℕ) → n ≡ numberIn (kindSaid (m .kind)) → k ≡ markIn (kindSaid (m .kind))
-    → filled (bytesOf "% % % % % % %\n") (m .year ∷ m .place ∷ m .day ∷ m .first ∷ m .length ∷ n ∷ k ∷ []) ≡ monthText (monthSaid m)
-unfolding monthText
-month-text m n k e f = cc
-
--- a number's sign
-negative : (z : ℤ) (m : ℕ) → ltZ z (pos 0) ≡ true → m ≡ natAbs z → filled (bytesOf "-%\n") (m ∷ []) ≡ signedText z
-unfolding signedText
-negative (pos n) m e h = absurd (not-suc-le-zero (ltb-true n 0 e))
-negative (negsuc n) m e h = ap (λ (k : ℕ). filled (bytesOf "-%\n") (k ∷ [])) h
-
-positive : (z : ℤ) (m : ℕ) → ltZ z (pos 0) ≡ false → m ≡ natAbs z → filled (bytesOf "%\n") (m ∷ []) ≡ signedText z
-unfolding signedText
-positive (pos n) m e h = ap (λ (k : ℕ). filled (bytesOf "%\n") (k ∷ [])) h
-positive (negsuc n) m e h = absurd (false≢true (sym e))
-
-module _ (z : ℤ) (m : ℕ) (f : SFits w64 z) (h : m ≡ natAbs (toZ w64 (ofZ w64 z))) where
-  pub below-zero : ltZ (toZ w64 (ofZ w64 z)) (toZ w64 (ofZ w64 (pos 0))) ≡ true → filled (bytesOf "-%\n") (m ∷ []) ≡ signedText z
-  below-zero e = negative z m (simp (toZ-ofZ f) at e) (simp (toZ-ofZ f) at h)
-
-  pub from-zero : ltZ (toZ w64 (ofZ w64 z)) (toZ w64 (ofZ w64 (pos 0))) ≡ false → filled (bytesOf "%\n") (m ∷ []) ≡ signedText z
-  from-zero e = positive z m (simp (toZ-ofZ f) at e) (simp (toZ-ofZ f) at h)
-
--- a reply in the case that it is
 pub case-room : {r case : ReplyCase} {n : ℕ} → r ≡ case → roomOf (toldIn r) ≤ n → roomOf (toldIn case) ≤ n
 case-room e h = rw e at h
 

@@ -1,35 +1,17 @@
 -- The line of text that is written for each reply, and the room that it asks for.
 -- Assumes nothing.
 use mathlib.Core.List.{List, [], _∷_}
-use Prim.Native.Nat.{ℕ, suc}
-use lib.IntN.{ℤ, pos, negsuc}
+use Prim.Native.Nat.{ℕ}
 use lib.ListN.{length}
 use Rattle.measure.specs.Choice.{_<?_}
 use Rattle.measure.specs.Reply.{Reply, answer, shortRow, refuseIf}
 use Rattle.measure.specs.Units.{day as oneDay, fen, miao, year as solarYear, halfYear, month as lunarMonth, quarterStep, termStep, pentadStep, earthStep, anomalisticMonth, anomalisticHalf}
 use Rattle.measure.specs.Epoch.{shoushi}
-use Rattle.measure.specs.Days.{dayOf, remainderOf, sixtyName}
-use Rattle.kinds.specs.Kind.{numberIn, markIn}
-use Rattle.months.specs.Month.{MonthOfDay}
 use Rattle.words.specs.Ascii.{bytesOf}
 use Rattle.texts.specs.Text.{filled}
-use Rattle.list_texts.specs.ListText.{refusalText, numbersText, termsText, yearText, yearsText, lineRoom, yearsRoom}
+use Rattle.line_texts.specs.LineText.{refusalText, numbersText, signedText, monthText, momentText, lineRoom}
+use Rattle.list_texts.specs.ListText.{termsText, yearText, yearsText, yearsRoom}
 use Rattle.questions.specs.Told.{Told, refusal, nothing, numbers, signed, month, moment, terms, year, years, constants, help}
-
--- a negative number has a sign before its magnitude
-unfoldable pub signedText : ℤ → List ℕ
-signedText (pos n) = filled (bytesOf "%\n") (n ∷ [])
-signedText (negsuc n) = filled (bytesOf "-%\n") (suc n ∷ [])
-
--- year, place and day of the month; first day and length; number and leap mark
-unfoldable pub monthText : MonthOfDay → List ℕ
-monthText m =
-    filled (bytesOf "% % % % % % %\n")
-    (m .year ∷ m .place ∷ m .day ∷ m .first ∷ m .length ∷ numberIn (m .kind) ∷ markIn (m .kind) ∷ [])
-
--- a running time with its day, its remainder and the day's name
-unfoldable pub momentText : ℕ → List ℕ
-momentText t = filled (bytesOf "% % % %\n") (t ∷ dayOf t ∷ remainderOf t ∷ sixtyName (dayOf t) ∷ [])
 
 unfoldable pub constantsText : List ℕ
 constantsText =

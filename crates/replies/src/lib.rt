@@ -1,7 +1,9 @@
 // The line of text that is written for each reply.
+use line_texts::put_moment;
+use line_texts::put_month;
+use line_texts::put_signed;
 use measure::Answer;
 use measure::SHORT_ROW;
-use months::Month;
 use questions::Reply;
 use texts::fill;
 ghost use mathlib.Core.Path.{_≡_};
@@ -10,10 +12,9 @@ ghost use Prim.Native.Nat.{_≤_};
 ghost use lib.ListN.{length};
 ghost use Rattle.measure.specs.Reply.{answerSaid};
 ghost use Rattle.measure.specs.Row.{over, rowAfter};
-ghost use Rattle.months.specs.Month.{monthSaid};
 ghost use Rattle.questions.specs.Told.{nothing, toldIn};
-ghost use Rattle.list_texts.specs.ListText.{numbersText, lineRoom};
-ghost use Rattle.replies.specs.ReplyText.{signedText, monthText, momentText, constantsText, helpText, replyText, roomOf, replyReply};
+ghost use Rattle.line_texts.specs.LineText.{numbersText, lineRoom};
+ghost use Rattle.replies.specs.ReplyText.{constantsText, helpText, replyText, roomOf, replyReply};
 
 // Room for one line, and for the records of all years.
 pub const LINE_ROOM: usize = 16_384;
@@ -47,7 +48,7 @@ fn put_reply(r: Reply, row: &mut [u8]) -> usize
     ensures { λ _. ⌜ now (row .exit) ≡ over (replyText (toldIn r)) (now (row .entry)) ⌝ }
 {
     match r {
-        Reply::Refused(k) => list_texts::put_refusal(k, row),
+        Reply::Refused(k) => line_texts::put_refusal(k, row),
         Reply::Nothing => put_nothing(row),
         Reply::One(a) => put_one(a, row),
         Reply::Two(a, b) => put_two(a, b, row),
@@ -93,48 +94,6 @@ fn put_three(a: u64, b: u64, c: u64, row: &mut [u8]) -> usize
     ensures { λ _. ⌜ now (row .exit) ≡ over (numbersText (a ∷ b ∷ c ∷ [])) (now (row .entry)) ⌝ }
 {
     fill(b"% % %\n", &[a, b, c], row)
-}
-
-// A negative number has a sign before its magnitude.
-fn put_signed(z: i64, row: &mut [u8]) -> usize
-    requires { ⌜ lineRoom ≤ length (now row) ⌝ }
-    ensures { λ n. ⌜ n ≡ length (signedText z) ⌝ }
-    ensures { λ _. ⌜ now (row .exit) ≡ over (signedText z) (now (row .entry)) ⌝ }
-{
-    let magnitude = signed::magnitude_of(z);
-    if z < 0 {
-        fill(b"-%\n", &[magnitude], row)
-    } else {
-        fill(b"%\n", &[magnitude], row)
-    }
-}
-
-// A running time with its day, its remainder and the day's name.
-fn put_moment(t: u64, row: &mut [u8]) -> usize
-    requires { ⌜ lineRoom ≤ length (now row) ⌝ }
-    ensures { λ n. ⌜ n ≡ length (momentText t) ⌝ }
-    ensures { λ _. ⌜ now (row .exit) ≡ over (momentText t) (now (row .entry)) ⌝ }
-{
-    let day = measure::day_of(t);
-    let name = measure::name_of(day);
-    let remainder = measure::remainder_of(t);
-    fill(b"% % % %\n", &[t, day, remainder, name.name], row)
-}
-
-// Year, place and day of the month; first day and length; number and leap mark.
-fn put_month(m: Month, row: &mut [u8]) -> usize
-    requires { ⌜ lineRoom ≤ length (now row) ⌝ }
-    ensures { λ n. ⌜ n ≡ length (monthText (monthSaid m)) ⌝ }
-    ensures { λ _. ⌜ now (row .exit) ≡ over (monthText (monthSaid m)) (now (row .entry)) ⌝ }
-{
-    let kind = m.kind;
-    let number = kinds::number_in(kind);
-    let mark = kinds::leap_mark(kind);
-    fill(
-        b"% % % % % % %\n",
-        &[m.year, m.place, m.day, m.first, m.length, number, mark],
-        row,
-    )
 }
 
 fn put_constants(row: &mut [u8]) -> usize

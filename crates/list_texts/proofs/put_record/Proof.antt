@@ -8,7 +8,7 @@ use denote.Ref.{now}
 use Rattle.words.specs.Ascii.{bytesOf}
 use Rattle.texts.specs.Text.{filled}
 use Rattle.texts.proofs.TextLaws.{filled-most}
-use Rattle.list_texts.proofs.ListLaws.{told-so}
+use Rattle.line_texts.proofs.LineLaws.{told-so}
 use Rattle.list_texts.proofs.RecordLaws.{first-record, later-record}
 use Rattle.list_texts.proofs.put_record.Statement.{statement}
 use Rattle.list_texts.proofs.put_record.Tie as tie

@@ -14,7 +14,7 @@ use Rattle.measure.proofs.Row.{restFrom, put, grow}
 use Rattle.lists.specs.Records.{recordWidth}
 use Rattle.texts.specs.Text.{filled}
 use Rattle.list_texts.specs.ListText.{recordHoles, recordsHoles, recordsText, recordRoom}
-use Rattle.list_texts.proofs.ListLaws.{told-so}
+use Rattle.line_texts.proofs.LineLaws.{told-so}
 use Rattle.list_texts.proofs.RecordLaws.{record-more, line-ended}
 use Rattle.list_texts.proofs.put_records.Statement.{statement}
 use Rattle.list_texts.proofs.put_records.Tie as tie

@@ -5,8 +5,10 @@ use mathlib.Core.Path.{_∙_, sym, ap}
 use Rattle.measure.specs.Reply.{answerSaid}
 use Rattle.measure.specs.Epoch.{shoushi}
 use Rattle.seasons.specs.Terms.{terms, termList, termsReply}
-use Rattle.list_texts.specs.ListText.{blankHoles, numberHoles, termsText}
-use Rattle.list_texts.proofs.ListLaws.{told-so, terms-text, list-refused}
+use Rattle.line_texts.specs.LineText.{blankHoles, numberHoles}
+use Rattle.list_texts.specs.ListText.{termsText}
+use Rattle.line_texts.proofs.LineLaws.{told-so}
+use Rattle.list_texts.proofs.ListLaws.{terms-text, list-refused}
 use Rattle.list_texts.proofs.put_terms.Statement.{statement}
 use Rattle.list_texts.proofs.put_terms.Tie as tie
 

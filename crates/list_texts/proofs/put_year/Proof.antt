@@ -9,7 +9,7 @@ use Rattle.month_law.specs.Calendar.{monthsIn}
 use Rattle.month_law.specs.Edition.{calendar}
 use Rattle.lists.specs.Records.{yearRoom, recordsOf, listReply}
 use Rattle.list_texts.specs.ListText.{yearText}
-use Rattle.list_texts.proofs.ListLaws.{told-so}
+use Rattle.line_texts.proofs.LineLaws.{told-so}
 use Rattle.list_texts.proofs.RecordLaws.{records-answered, records-refused, year-most, year-long}
 use Rattle.list_texts.proofs.put_year.Statement.{statement}
 use Rattle.list_texts.proofs.put_year.Tie as tie

@@ -12,7 +12,7 @@ use Rattle.measure.specs.Epoch.{shoushi}
 use Rattle.month_law.specs.Edition.{calendar}
 use Rattle.lists.specs.Records.{recordWidth, runOf, runReply}
 use Rattle.list_texts.specs.ListText.{yearsText, mostRecords}
-use Rattle.list_texts.proofs.ListLaws.{told-so}
+use Rattle.line_texts.proofs.LineLaws.{told-so}
 use Rattle.list_texts.proofs.RecordLaws.{records-answered, records-refused, run-most, run-long}
 use Rattle.list_texts.proofs.put_years.Statement.{statement}
 use Rattle.list_texts.proofs.put_years.Tie as tie

@@ -5,8 +5,9 @@ use denote.Ref.{now}
 use mir.Syntax.{w64}
 use mir.Val.{SFits}
 use mir.Facts.{toZ-ofZ}
-use Rattle.replies.specs.ReplyText.{signedText, replyText, roomOf}
-use Rattle.list_texts.proofs.ListLaws.{told-so}
+use Rattle.line_texts.specs.LineText.{signedText}
+use Rattle.replies.specs.ReplyText.{replyText, roomOf}
+use Rattle.line_texts.proofs.LineLaws.{told-so}
 use Rattle.replies.proofs.ReplyLaws.{case-room, case-told}
 use Rattle.replies.proofs.put_reply.Statement.{statement}
 use Rattle.replies.proofs.put_reply.Tie as tie

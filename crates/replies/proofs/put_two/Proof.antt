@@ -1,6 +1,6 @@
 -- `replies::put_two` meets its contract. Assumes nothing.
 use borrow.Author.Needs.{needs}
-use Rattle.list_texts.specs.ListText.{blankHoles, numberHoles, numbersText}
+use Rattle.line_texts.specs.LineText.{blankHoles, numberHoles, numbersText}
 use Rattle.replies.proofs.put_two.Statement.{statement}
 use Rattle.replies.proofs.put_two.Tie as tie
 

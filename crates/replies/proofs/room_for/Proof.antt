@@ -8,7 +8,7 @@ use Rattle.questions.proofs.Reply.{the-type}
 use Rattle.questions.specs.Told.{toldIn}
 use Rattle.questions.specs.declared.Reply.{Reply as ReplyCase}
 use Rattle.questions.specs.declared.Reply.the-variants.{Refused, Nothing, One, Two, Three, Signed, Month, Moment, Terms, Year, Years, Constants, Help}
-use Rattle.list_texts.specs.ListText.{lineRoom}
+use Rattle.line_texts.specs.LineText.{lineRoom}
 use Rattle.replies.specs.ReplyText.{roomOf}
 use Rattle.replies.proofs.room_for.Statement.{statement}
 use Rattle.replies.proofs.room_for.Tie as tie

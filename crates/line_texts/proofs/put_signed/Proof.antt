@@ -1,10 +1,9 @@
--- `replies::put_signed` meets its contract. Assumes nothing.
+-- `line_texts::put_signed` meets its contract. Assumes nothing.
 use borrow.Author.Needs.{needs}
 use denote.Ref.{now}
-use Rattle.list_texts.proofs.ListLaws.{told-so}
-use Rattle.replies.proofs.ReplyLaws.{below-zero, from-zero}
-use Rattle.replies.proofs.put_signed.Statement.{statement}
-use Rattle.replies.proofs.put_signed.Tie as tie
+use Rattle.line_texts.proofs.LineLaws.{told-so, below-zero, from-zero}
+use Rattle.line_texts.proofs.put_signed.Statement.{statement}
+use Rattle.line_texts.proofs.put_signed.Tie as tie
 
 magnitude-of-requires : tie.Need-magnitude-of-requires
 magnitude-of-requires c κs = search needs

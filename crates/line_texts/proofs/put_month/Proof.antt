@@ -1,10 +1,9 @@
--- `replies::put_month` meets its contract. Assumes nothing.
+-- `line_texts::put_month` meets its contract. Assumes nothing.
 use borrow.Author.Needs.{needs}
 use denote.Ref.{now}
-use Rattle.list_texts.proofs.ListLaws.{told-so}
-use Rattle.replies.proofs.ReplyLaws.{month-text}
-use Rattle.replies.proofs.put_month.Statement.{statement}
-use Rattle.replies.proofs.put_month.Tie as tie
+use Rattle.line_texts.proofs.LineLaws.{told-so, month-text}
+use Rattle.line_texts.proofs.put_month.Statement.{statement}
+use Rattle.line_texts.proofs.put_month.Tie as tie
 
 number-in-requires : tie.Need-number-in-requires
 number-in-requires c κs = search needs

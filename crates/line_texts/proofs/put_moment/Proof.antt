@@ -1,12 +1,11 @@
--- `replies::put_moment` meets its contract. Assumes nothing.
+-- `line_texts::put_moment` meets its contract. Assumes nothing.
 use borrow.Author.Needs.{needs}
 use denote.Ref.{now}
 use mathlib.Core.Path.{ap}
 use Rattle.measure.specs.declared.Name.{Name}
-use Rattle.list_texts.proofs.ListLaws.{told-so}
-use Rattle.replies.proofs.ReplyLaws.{moment-text}
-use Rattle.replies.proofs.put_moment.Statement.{statement}
-use Rattle.replies.proofs.put_moment.Tie as tie
+use Rattle.line_texts.proofs.LineLaws.{told-so, moment-text}
+use Rattle.line_texts.proofs.put_moment.Statement.{statement}
+use Rattle.line_texts.proofs.put_moment.Tie as tie
 
 day-of-requires : tie.Need-day-of-requires
 day-of-requires c κs = search needs

@@ -1,8 +1,8 @@
--- `list_texts::put_refusal` meets its contract. Assumes nothing.
+-- `line_texts::put_refusal` meets its contract. Assumes nothing.
 use borrow.Author.Needs.{needs}
-use Rattle.list_texts.specs.ListText.{refusalText}
-use Rattle.list_texts.proofs.put_refusal.Statement.{statement}
-use Rattle.list_texts.proofs.put_refusal.Tie as tie
+use Rattle.line_texts.specs.LineText.{refusalText}
+use Rattle.line_texts.proofs.put_refusal.Statement.{statement}
+use Rattle.line_texts.proofs.put_refusal.Tie as tie
 
 slice-aggregate-fill : tie.Need-slice-aggregate-fill
 slice-aggregate-fill c = search needs

@@ -1,0 +1,55 @@
+-- Laws of lines: what is written is the text, and a number's sign.
+-- Assumes nothing.
+use mathlib.Core.Bool.{true, false, false≢true}
+use mathlib.Core.List.{List, [], _∷_}
+use mathlib.Core.Path.{_≡_, _∙_, sym, ap}
+use Prim.Native.Nat.{ℕ, suc}
+use native.Mathlib.Nat.{not-suc-le-zero}
+use borrow.Author.Tests.{ltb-true}
+use lib.IntN.{ℤ, pos, negsuc, natAbs}
+use lib.Signed.{ltZ}
+use lib.ListN.{length}
+use mir.Syntax.{w64}
+use mir.Val.{SFits, ofZ, toZ}
+use mir.Facts.{toZ-ofZ}
+use Rattle.measure.specs.Row.{over}
+use Rattle.measure.specs.Days.{dayOf, remainderOf, sixtyName}
+use Rattle.kinds.specs.Kind.{numberIn, markIn, kindSaid}
+use Rattle.months.specs.Month.{monthSaid}
+use Rattle.months.specs.declared.Month.{Month}
+use Rattle.words.specs.Ascii.{bytesOf}
+use Rattle.texts.specs.Text.{filled}
+use Rattle.line_texts.specs.LineText.{signedText, monthText, momentText}
+
+-- what is written is the text
+pub told-so : {new text now : List ℕ} {r : ℕ} (row : List ℕ) → new ≡ text → (r ≡ length new) × (now ≡ over new row)
+    → (r ≡ length text) × (now ≡ over text row)
+told-so row e h = (h .0 ∙ ap length e, h .1 ∙ ap (λ (l : List ℕ). over l row) e)
+
+pub moment-text : (t d r n : ℕ) → d ≡ dayOf t → r ≡ remainderOf t → n ≡ sixtyName d
+    → filled (bytesOf "% % % %\n") (t ∷ d ∷ r ∷ n ∷ []) ≡ momentText t
+unfolding momentText
+moment-text t d r n e f g = cc
+
+pub month-text : (m : Month) (n k : ℕ) → n ≡ numberIn (kindSaid (m .kind)) → k ≡ markIn (kindSaid (m .kind))
+    → filled (bytesOf "% % % % % % %\n") (m .year ∷ m .place ∷ m .day ∷ m .first ∷ m .length ∷ n ∷ k ∷ []) ≡ monthText (monthSaid m)
+unfolding monthText
+month-text m n k e f = cc
+
+-- a number's sign
+negative : (z : ℤ) (m : ℕ) → ltZ z (pos 0) ≡ true → m ≡ natAbs z → filled (bytesOf "-%\n") (m ∷ []) ≡ signedText z
+unfolding signedText
+negative (pos n) m e h = absurd (not-suc-le-zero (ltb-true n 0 e))
+negative (negsuc n) m e h = ap (λ (k : ℕ). filled (bytesOf "-%\n") (k ∷ [])) h
+
+positive : (z : ℤ) (m : ℕ) → ltZ z (pos 0) ≡ false → m ≡ natAbs z → filled (bytesOf "%\n") (m ∷ []) ≡ signedText z
+unfolding signedText
+positive (pos n) m e h = ap (λ (k : ℕ). filled (bytesOf "%\n") (k ∷ [])) h
+positive (negsuc n) m e h = absurd (false≢true (sym e))
+
+module _ (z : ℤ) (m : ℕ) (f : SFits w64 z) (h : m ≡ natAbs (toZ w64 (ofZ w64 z))) where
+  pub below-zero : ltZ (toZ w64 (ofZ w64 z)) (toZ w64 (ofZ w64 (pos 0))) ≡ true → filled (bytesOf "-%\n") (m ∷ []) ≡ signedText z
+  below-zero e = negative z m (simp (toZ-ofZ f) at e) (simp (toZ-ofZ f) at h)
+
+  pub from-zero : ltZ (toZ w64 (ofZ w64 z)) (toZ w64 (ofZ w64 (pos 0))) ≡ false → filled (bytesOf "%\n") (m ∷ []) ≡ signedText z
+  from-zero e = positive z m (simp (toZ-ofZ f) at e) (simp (toZ-ofZ f) at h)
