@@ -7,8 +7,8 @@ use Rattle.measure.specs.Reply.{answer}
 use Rattle.measure.specs.Units.{day}
 use Rattle.measure.specs.Epoch.{shoushi}
 use Rattle.measure.specs.Days.{dayOf, sixtyName}
-use Rattle.measure.specs.Hours.{doubleHour, ke, hourReply}
-use Rattle.measure.specs.ExtraDays.{daysOn, none, extraDay, extraReply}
+use Rattle.remainders.specs.Hours.{doubleHour, ke, hourReply}
+use Rattle.remainders.specs.ExtraDays.{daysOn, none, extraDay, extraReply}
 use Rattle.signed.specs.Signed.{aheadBy, behindBy}
 use Rattle.inequality.specs.Law.{taken, law, exact}
 use Rattle.inequality.specs.Solar.{fast, slow, fastAt, slowAt, solarAt, solar, solarTime}

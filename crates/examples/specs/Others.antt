@@ -10,8 +10,8 @@ use Rattle.measure.specs.Row.{listed, over, rowAfter}
 use Rattle.measure.specs.Units.{day}
 use Rattle.measure.specs.Epoch.{shoushi}
 use Rattle.measure.specs.Days.{sixtyName, stem, branch}
-use Rattle.measure.specs.Hours.{doubleHour, ke, hourReply}
-use Rattle.measure.specs.ExtraDays.{daysOn, none, extraDay, extraReply, vanishingDay, vanishingReply}
+use Rattle.remainders.specs.Hours.{doubleHour, ke, hourReply}
+use Rattle.remainders.specs.ExtraDays.{daysOn, none, extraDay, extraReply, vanishingDay, vanishingReply}
 use Rattle.signed.specs.Signed.{aheadBy, behindBy}
 use Rattle.inequality.specs.Law.{taken, law, exact}
 use Rattle.inequality.specs.Solar.{slow, fast, fastAt, slowAt, solar, solarTime, solarAtReply}

@@ -19,7 +19,7 @@ pub fn put_terms(n: u64, row: &mut [u8]) -> usize
     ensures { λ _. ⌜ now (row .exit) ≡ over (termsText n) (now (row .entry)) ⌝ }
 {
     let mut times = [0u64; 24];
-    match seasons::terms(n, &mut times) {
+    match term_lists::terms(n, &mut times) {
         Answer::Refused(k) => put_refusal(k, row),
         Answer::Number(_) => fill(
             b"% % % % % % % % % % % % % % % % % % % % % % % %\n",

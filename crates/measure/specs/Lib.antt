@@ -4,5 +4,3 @@ pub mod Row
 pub mod Units
 pub mod Epoch
 pub mod Days
-pub mod Hours
-pub mod ExtraDays

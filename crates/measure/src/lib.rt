@@ -1,10 +1,8 @@
-// Units and constants, the running day count, hours, extra and vanishing days.
+// Units and constants, the running day count and its names.
 ghost use mathlib.Core.Path.{_≡_};
 ghost use Prim.Native.Nat.{_*_, _/_, _≤_, _<_};
 ghost use Rattle.measure.specs.Units.{day};
 ghost use Rattle.measure.specs.Days.{dayOf, remainderOf, nameOf};
-ghost use Rattle.measure.specs.Hours.{hourReply, hourSaid};
-ghost use Rattle.measure.specs.ExtraDays.{extraReply, vanishingReply, daysSaid};
 
 // All times are in wei.
 pub const MIAO: u64 = 100;
@@ -87,66 +85,6 @@ pub fn name_of(day: u64) -> Name
         stem: day % 10,
         branch: day % 12,
     }
-}
-
-pub enum Hour {
-    At { double_hour: u64, ke: u64 },
-    Refused(u64),
-}
-
-const KE: u64 = 1_200 * FEN;
-
-// The double-hour and the ke of a remainder. A day or more is outside.
-pub fn double_hour(remainder: u64) -> Hour
-    ensures { λ r. ⌜ hourSaid r ≡ hourReply remainder ⌝ }
-{
-    if DAY <= remainder {
-        return Hour::Refused(OUTSIDE);
-    }
-    let twelfths = remainder * 12;
-    Hour::At {
-        double_hour: twelfths / DAY,
-        ke: twelfths % DAY / KE,
-    }
-}
-
-// How many days after its term or its new moon a day falls, if there is one.
-pub enum Days {
-    Add(u64),
-    Nothing,
-    Refused(u64),
-}
-
-const EXTRA_LIMIT: u64 = DAY - TERM_EXCESS;
-
-const TERM_EXCESS: u64 = TERM_STEP - 15 * DAY;
-
-const MONTH_DEFICIT: u64 = 30 * DAY - MONTH;
-
-// The extra day of a term with this remainder. A day or more is outside.
-pub fn extra_day(remainder: u64) -> Days
-    ensures { λ r. ⌜ daysSaid r ≡ extraReply remainder ⌝ }
-{
-    if DAY <= remainder {
-        return Days::Refused(OUTSIDE);
-    }
-    if remainder < EXTRA_LIMIT {
-        return Days::Nothing;
-    }
-    Days::Add((TERM_STEP - 15 * remainder) / TERM_EXCESS)
-}
-
-// The vanishing day of a mean new moon with this remainder. A day or more is outside.
-pub fn vanishing_day(remainder: u64) -> Days
-    ensures { λ r. ⌜ daysSaid r ≡ vanishingReply remainder ⌝ }
-{
-    if DAY <= remainder {
-        return Days::Refused(OUTSIDE);
-    }
-    if MONTH_DEFICIT < remainder {
-        return Days::Nothing;
-    }
-    Days::Add(30 * remainder / MONTH_DEFICIT)
 }
 
 // The whole part of a × t / day, where the product itself may have more than 64 bits. For the crates above: no question of the

@@ -6,7 +6,7 @@ use Prim.Native.Nat.{ℕ, _+_, _-_, _%_, _≤_, _<_}
 use native.Mathlib.Nat.{mul-le-mul-left}
 use native.Mathlib.Omega.{arith}
 use Rattle.measure.specs.Units.{year, anomalisticMonth}
-use Rattle.measure.specs.ExtraDays.{monthDeficit}
+use Rattle.remainders.specs.ExtraDays.{monthDeficit}
 use Rattle.measure.proofs.Choice.{lt-or-ge}
 use Rattle.signed.specs.Signed.{Signed, aheadBy, minus}
 use Rattle.inequality.specs.Solar.{solar}

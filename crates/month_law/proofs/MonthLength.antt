@@ -4,7 +4,7 @@ use mathlib.Core.Path.{_≡_}
 use Prim.Native.Nat.{ℕ, suc, _+_, _*_, _%_, _≤_, _<_}
 use native.Mathlib.Omega.{arith}
 use Rattle.measure.specs.Units.{day, year, month, anomalisticMonth}
-use Rattle.measure.specs.ExtraDays.{monthDeficit}
+use Rattle.remainders.specs.ExtraDays.{monthDeficit}
 use Rattle.measure.specs.Epoch.{Epoch, meanStart}
 use Rattle.measure.specs.Days.{dayOf}
 use Rattle.signed.specs.Signed.{Signed}

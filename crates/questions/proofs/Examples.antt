@@ -6,8 +6,8 @@ use Rattle.bytes.specs.Bytes.{indexOf, indexAfter}
 use Rattle.decimals.specs.Number.{digits, value, isNumber, numberOf}
 use Rattle.words.specs.Numbers.{endOf, partOf, restOf, numbersOf}
 use Rattle.measure.specs.Epoch.{shoushi}
-use Rattle.measure.specs.Hours.{hourReply, doubleHour, ke}
-use Rattle.measure.specs.ExtraDays.{extraReply, extraDay}
+use Rattle.remainders.specs.Hours.{hourReply, doubleHour, ke}
+use Rattle.remainders.specs.ExtraDays.{extraReply, extraDay}
 use Rattle.inequality.specs.Motion.{motionAtReply}
 use Rattle.seasons.specs.Solstice.{solsticeReply, solstice}
 use Rattle.seasons.specs.Terms.{termReply}

@@ -13,8 +13,8 @@ use Rattle.measure.specs.Choice.{if_then_else_, _<?_}
 use Rattle.measure.specs.Reply.{badLine}
 use Rattle.measure.specs.Epoch.{Epoch}
 use Rattle.measure.specs.Days.{nameOf}
-use Rattle.measure.specs.Hours.{hourReply}
-use Rattle.measure.specs.ExtraDays.{Found, none, daysOn, extraReply, vanishingReply}
+use Rattle.remainders.specs.Hours.{hourReply}
+use Rattle.remainders.specs.ExtraDays.{Found, none, daysOn, extraReply, vanishingReply}
 use Rattle.measure.specs.declared.Name.{Name}
 use Rattle.signed.specs.Signed.{asInteger}
 use Rattle.inequality.specs.Solar.{fast, slow, solarAtReply}

@@ -52,9 +52,9 @@ fn one_at(k: usize, n: u64) -> Reply
         3 => Reply::Year(n),
         4 => month_of(months::month_of(n)),
         5 => name_of(measure::name_of(n)),
-        6 => hour_of(measure::double_hour(n)),
-        7 => days_on(measure::extra_day(n)),
-        8 => days_on(measure::vanishing_day(n)),
+        6 => hour_of(remainders::double_hour(n)),
+        7 => days_on(remainders::extra_day(n)),
+        8 => days_on(remainders::vanishing_day(n)),
         _ => Reply::Refused(BAD_LINE),
     }
 }

@@ -1,13 +1,13 @@
 // A reply of the calendar as one of the desk's.
 use crate::Reply;
 use measure::Answer;
-use measure::Days;
-use measure::Hour;
+use remainders::Days;
+use remainders::Hour;
 use signed::SignedAnswer;
 ghost use mathlib.Core.Path.{_≡_};
 ghost use Rattle.measure.specs.Reply.{answerSaid};
-ghost use Rattle.measure.specs.Hours.{hourSaid};
-ghost use Rattle.measure.specs.ExtraDays.{daysSaid};
+ghost use Rattle.remainders.specs.Hours.{hourSaid};
+ghost use Rattle.remainders.specs.ExtraDays.{daysSaid};
 ghost use Rattle.signed.specs.Signed.{signedSaid};
 ghost use Rattle.months.specs.Month.{replySaid};
 ghost use Rattle.questions.specs.Told.{toldIn, told, signed, month, moment};

@@ -5,21 +5,16 @@ use measure::LAST_YEAR;
 use measure::NO_YEAR;
 use measure::OUTSIDE;
 use measure::PENTAD_STEP;
-use measure::SHORT_ROW;
 use measure::SOLSTICE_EPOCH;
 use measure::TERM_STEP;
 use measure::YEAR;
 ghost use mathlib.Core.Path.{_≡_};
 ghost use Prim.Native.Nat.{_+_, _≤_, _<_};
-ghost use lib.ListN.{length};
 ghost use Rattle.measure.specs.Reply.{answerSaid};
-ghost use Rattle.measure.specs.Row.{over, rowAfter};
 ghost use Rattle.measure.specs.Units.{lastYear};
 ghost use Rattle.measure.specs.Epoch.{shoushi};
 ghost use Rattle.seasons.specs.Solstice.{solstice, solsticeReply};
-ghost use Rattle.seasons.specs.Terms.{terms, term, termReply, termList, termsReply, pentadReply, earthReply};
-
-const TERMS: usize = 24;
+ghost use Rattle.seasons.specs.Terms.{terms, term, termReply, pentadReply, earthReply};
 
 // The running time of the solstice that year n begins with. A year past the last is refused with 1.
 pub fn solstice(n: u64) -> Answer
@@ -42,21 +37,6 @@ pub fn term(n: u64, i: u64) -> Answer
         return Answer::Refused(OUTSIDE);
     }
     Answer::Number(term_time(n, i))
-}
-
-// The terms of year n from the row's start; how many there are. After the year, a row that is too short is refused with 4.
-pub fn terms(n: u64, row: &mut [u64]) -> Answer
-    ensures { λ r. ⌜ answerSaid r ≡ termsReply n (length (now (row .entry))) ⌝ }
-    ensures { λ _. ⌜ now (row .exit) ≡ rowAfter (termsReply n (length (now (row .entry)))) (termList shoushi n) (now (row .entry)) ⌝ }
-{
-    if LAST_YEAR < n {
-        return Answer::Refused(NO_YEAR);
-    }
-    if row.len() < TERMS {
-        return Answer::Refused(SHORT_ROW);
-    }
-    write_terms(n, row);
-    Answer::Number(TERMS as u64)
 }
 
 // The running time of pentad p of term i of year n. After the year, a term or a pentad past its last is refused with 2.
@@ -88,20 +68,10 @@ pub fn earth(n: u64, i: u64) -> Answer
     }
 }
 
-fn term_time(n: u64, i: u64) -> u64
+// The running time of term i of year n, for callers that know both to be admitted.
+pub fn term_time(n: u64, i: u64) -> u64
     requires { ⌜ (n ≤ lastYear + 1) × (i < terms) ⌝ }
     ensures { λ r. ⌜ r ≡ term shoushi n i ⌝ }
 {
     n * YEAR + SOLSTICE_EPOCH + i * TERM_STEP
-}
-
-fn write_terms(n: u64, row: &mut [u64])
-    requires { ⌜ (n ≤ lastYear) × (terms ≤ length (now row)) ⌝ }
-    ensures { λ _. ⌜ now (row .exit) ≡ over (termList shoushi n) (now (row .entry)) ⌝ }
-{
-    let mut i: usize = 0;
-    while i < TERMS {
-        row[i] = term_time(n, i as u64);
-        i += 1;
-    }
 }

@@ -2,11 +2,11 @@
 -- Assumes nothing.
 use mathlib.Core.Path.{_≡_, refl}
 use Prim.Native.Nat.{ℕ, _+_, _*_, _-_, _/_}
 use Rattle.measure.specs.Choice.{if_then_else_, _≤?_}
 use Rattle.measure.specs.Reply.{Reply, answer, refused, outside, refuseIf}
 use Rattle.measure.specs.Units.{day, month, termStep}
-use Rattle.measure.specs.declared.Days.{Days}
-use Rattle.measure.specs.declared.Days.the-variants.{Add, Nothing, Refused}
+use Rattle.remainders.specs.declared.Days.{Days}
+use Rattle.remainders.specs.declared.Days.the-variants.{Add, Nothing, Refused}
 
 -- "none" is an answer like any other
 pub data Found : Type 0 where

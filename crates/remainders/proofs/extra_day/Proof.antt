@@ -1,9 +1,9 @@
--- `measure::extra_day` meets its contract. Assumes nothing.
+-- `remainders::extra_day` meets its contract. Assumes nothing.
 use borrow.Author.Needs.{needs}
 use borrow.Author.Tests.{le-leb, lt-leb}
-use Rattle.measure.specs.ExtraDays.{extraDay, extraReply}
-use Rattle.measure.proofs.extra_day.Statement.{statement}
-use Rattle.measure.proofs.extra_day.Tie as tie
+use Rattle.remainders.specs.ExtraDays.{extraDay, extraReply}
+use Rattle.remainders.proofs.extra_day.Statement.{statement}
+use Rattle.remainders.proofs.extra_day.Tie as tie
 
 returns : tie.Need-returns
 unfolding extraReply

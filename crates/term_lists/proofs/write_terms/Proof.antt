@@ -1,4 +1,4 @@
--- `seasons::write_terms` meets its contract: after i turns the row holds the first i terms, and past them what it held.
+-- `term_lists::write_terms` meets its contract: after i turns the row holds the first i terms, and past them what it held.
 -- Assumes nothing.
 use mathlib.Core.Path.{_≡_, _∙_, refl, ap}
 use Prim.Native.Nat.{ℕ, _-_, _≤_}
@@ -8,9 +8,9 @@ use denote.Ref.{now}
 use Rattle.measure.specs.Epoch.{shoushi}
 use Rattle.measure.specs.Row.{listed, over}
 use Rattle.measure.proofs.Row.{put-listed}
 use Rattle.seasons.specs.Terms.{terms, term, termList}
-use Rattle.seasons.proofs.write_terms.Statement.{statement}
-use Rattle.seasons.proofs.write_terms.Tie as tie
+use Rattle.term_lists.proofs.write_terms.Statement.{statement}
+use Rattle.term_lists.proofs.write_terms.Tie as tie
 
 abbrev Inv-loop : tie.InvT-loop
 Inv-loop n row₀ i₀ row i = (i ≤ terms) × (length row ≡ length row₀) × (row ≡ over (listed (term shoushi n) 0 i) row₀)

@@ -1,9 +1,9 @@
--- `measure::vanishing_day` meets its contract. Assumes nothing.
+-- `remainders::vanishing_day` meets its contract. Assumes nothing.
 use borrow.Author.Needs.{needs}
 use borrow.Author.Tests.{le-leb, lt-leb}
-use Rattle.measure.specs.ExtraDays.{vanishingDay, vanishingReply}
-use Rattle.measure.proofs.vanishing_day.Statement.{statement}
-use Rattle.measure.proofs.vanishing_day.Tie as tie
+use Rattle.remainders.specs.ExtraDays.{vanishingDay, vanishingReply}
+use Rattle.remainders.proofs.vanishing_day.Statement.{statement}
+use Rattle.remainders.proofs.vanishing_day.Tie as tie
 
 returns : tie.Need-returns
 unfolding vanishingReply

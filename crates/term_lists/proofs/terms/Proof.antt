@@ -1,9 +1,9 @@
--- `seasons::terms` meets its contract. Assumes nothing.
+-- `term_lists::terms` meets its contract. Assumes nothing.
 use borrow.Author.Needs.{needs}
 use borrow.Author.Tests.{lt-ltb, le-ltb}
 use Rattle.seasons.specs.Terms.{termsReply}
-use Rattle.seasons.proofs.terms.Statement.{statement}
-use Rattle.seasons.proofs.terms.Tie as tie
+use Rattle.term_lists.proofs.terms.Statement.{statement}
+use Rattle.term_lists.proofs.terms.Tie as tie
 
 returns : tie.Need-returns
 unfolding termsReply

@@ -1,9 +1,9 @@
--- `measure::double_hour` meets its contract. Assumes nothing.
+-- `remainders::double_hour` meets its contract. Assumes nothing.
 use borrow.Author.Needs.{needs}
 use borrow.Author.Tests.{le-leb, lt-leb}
-use Rattle.measure.specs.Hours.{doubleHour, ke, hourReply}
-use Rattle.measure.proofs.double_hour.Statement.{statement}
-use Rattle.measure.proofs.double_hour.Tie as tie
+use Rattle.remainders.specs.Hours.{doubleHour, ke, hourReply}
+use Rattle.remainders.proofs.double_hour.Statement.{statement}
+use Rattle.remainders.proofs.double_hour.Tie as tie
 
 returns : tie.Need-returns
 unfolding hourReply
