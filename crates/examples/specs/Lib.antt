@@ -1,3 +1,4 @@
 pub mod Examples
 pub mod Others
 pub mod Printed
+pub mod Desk

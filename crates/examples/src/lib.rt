@@ -1,1 +1,1 @@
-// The paper's examples and printed tables, held against the definitions: see specs/.
+// The paper's examples and printed tables, and the desk's lines, held against the definitions: see specs/.

@@ -1,5 +1,4 @@
 pub mod Among
-pub mod Examples
 pub mod Line
 pub mod Same
 pub mod Unique

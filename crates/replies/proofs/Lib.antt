@@ -1,4 +1,3 @@
 pub mod ReplyLaws
 pub mod Unique
-pub mod Examples
 pub mod Room
