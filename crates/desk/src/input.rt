@@ -4,8 +4,10 @@ use libc::STDIN_FILENO;
 use libc::STDOUT_FILENO;
 use measure::Answer;
 ghost use mathlib.Core.Path.{_≡_};
+ghost use mathlib.Core.List.{[], _∷_, _++_};
 ghost use Prim.Native.Nat.{_≤_};
 ghost use lib.ListN.{length, take};
+ghost use Rattle.measure.specs.Choice.{if_then_else_, _<?_};
 ghost use Rattle.measure.specs.Epoch.{shoushi};
 ghost use Rattle.questions.specs.Question.{replyTo};
 ghost use Rattle.list_texts.specs.ListText.{yearsRoom};
@@ -50,6 +52,7 @@ fn answer_line(line: &[u8], buf: &mut [u8]) -> bool
 fn keep(line: &mut [u8], kept: usize, b: u8) -> usize
     requires { ⌜ kept ≤ length (now line) ⌝ }
     ensures { λ r. ⌜ r ≤ length (now (line .entry)) ⌝ }
+    ensures { λ r. ⌜ take r (now (line .exit)) ≡ take (length (now (line .entry))) (take kept (now (line .entry)) ++ (b ∷ [])) ⌝ }
 {
     if kept < line.len() {
         line[kept] = b;
@@ -126,6 +129,7 @@ pub fn answer_lines(line: &mut [u8], buf: &mut [u8])
 fn blank_before(line: &mut [u8], n: usize, i: usize) -> usize
     requires { ⌜ n ≤ length (now line) ⌝ }
     ensures { λ r. ⌜ r ≤ length (now (line .entry)) ⌝ }
+    ensures { λ r. ⌜ take r (now (line .exit)) ≡ (if 1 <? i then take (length (now (line .entry))) (take n (now (line .entry)) ++ (32 ∷ [])) else take n (now (line .entry))) ⌝ }
 {
     if i > 1 {
         return keep(line, n, b' ');
