@@ -1,22 +1,25 @@
 // The lines: from the arguments, or from standard input by blocks. Each is answered as it ends.
+use day_lines::LINE_END;
 use libc::STDERR_FILENO;
 use libc::STDIN_FILENO;
 use libc::STDOUT_FILENO;
 use measure::Answer;
 ghost use mathlib.Core.Path.{_≡_};
 ghost use mathlib.Core.List.{[], _∷_, _++_};
-ghost use Prim.Native.Nat.{_≤_};
+ghost use Prim.Native.Nat.{_≤_, _<_};
 ghost use lib.ListN.{length, take};
 ghost use Rattle.measure.specs.Choice.{if_then_else_, _<?_};
 ghost use Rattle.measure.specs.Epoch.{shoushi};
 ghost use Rattle.questions.specs.Question.{replyTo};
 ghost use Rattle.list_texts.specs.ListText.{yearsRoom};
 ghost use Rattle.replies.specs.ReplyText.{replyText};
+ghost use Rattle.desk.specs.Input.{lastText, Left};
 
-// How many bytes of a line that was begun are kept, and whether to go on.
-struct Turn {
-    kept: usize,
-    more: bool,
+// How a turn ends: with so many bytes kept of a line that was begun, at the input's end, or by a failed write.
+enum Turn {
+    Begun(usize),
+    Ended,
+    CutShort,
 }
 
 // The text of the reply to a line, from the buffer's start; how many bytes it has.
@@ -63,15 +66,15 @@ fn keep(line: &mut [u8], kept: usize, b: u8) -> usize
 
 // Answers the lines that end in a block, and keeps what it has of the next. A failed write ends it.
 fn answer_block(block: &[u8], line: &mut [u8], kept: usize, buf: &mut [u8]) -> Turn
-    requires { ⌜ (kept ≤ length (now line)) × (yearsRoom ≤ length (now buf)) ⌝ }
-    ensures { λ r. ⌜ r .kept ≤ length (now (line .entry)) ⌝ }
+    requires { ⌜ (0 < length (now block)) × (kept ≤ length (now line)) × (yearsRoom ≤ length (now buf)) ⌝ }
+    ensures { λ r. ⌜ Left r (now (line .exit)) (length (now (line .entry))) (take kept (now (line .entry))) (now (block .entry)) ⌝ }
 {
     let mut n = kept;
     let mut more = true;
     let mut i: usize = 0;
     while i < block.len() && more {
         let b = block[i];
-        if b == b'\n' {
+        if b == LINE_END {
             more = answer_line(&line[0..n], buf);
             n = 0;
         } else {
@@ -79,7 +82,32 @@ fn answer_block(block: &[u8], line: &mut [u8], kept: usize, buf: &mut [u8]) -> T
         }
         i += 1;
     }
-    Turn { kept: n, more }
+    if more { Turn::Begun(n) } else { Turn::CutShort }
+}
+
+// The text of the reply to the last line, where one was begun; how many bytes it has.
+fn last_reply(line: &[u8], buf: &mut [u8]) -> usize
+    requires { ⌜ yearsRoom ≤ length (now buf) ⌝ }
+    ensures { λ r. ⌜ r ≤ length (now (buf .entry)) ⌝ }
+    ensures { λ r. ⌜ take r (now (buf .exit)) ≡ lastText (now (line .entry)) ⌝ }
+{
+    if line.len() == 0 {
+        return 0;
+    }
+    answered(line, buf)
+}
+
+// A block as it was read. Where nothing was, the input has ended, and so has a line that was begun.
+fn answer_read(block: &[u8], line: &mut [u8], kept: usize, buf: &mut [u8]) -> Turn
+    requires { ⌜ (kept ≤ length (now line)) × (yearsRoom ≤ length (now buf)) ⌝ }
+    ensures { λ r. ⌜ Left r (now (line .exit)) (length (now (line .entry))) (take kept (now (line .entry))) (now (block .entry)) ⌝ }
+{
+    if block.len() == 0 {
+        let n = last_reply(&line[0..kept], buf);
+        write_out(&buf[..n]);
+        return Turn::Ended;
+    }
+    answer_block(block, line, kept, buf)
 }
 
 // Reads once; how many bytes came.
@@ -90,24 +118,6 @@ fn fill(block: &mut [u8]) -> usize
     io::count(got, block)
 }
 
-// A block is read and answered. Where the input ends, a line that was begun ends too.
-fn answer_some(block: &mut [u8], line: &mut [u8], kept: usize, buf: &mut [u8]) -> Turn
-    requires { ⌜ (kept ≤ length (now line)) × (yearsRoom ≤ length (now buf)) ⌝ }
-    ensures { λ r. ⌜ r .kept ≤ length (now (line .entry)) ⌝ }
-{
-    let n = fill(block);
-    if n > 0 {
-        return answer_block(&block[0..n], line, kept, buf);
-    }
-    if kept > 0 {
-        answer_line(&line[0..kept], buf);
-    }
-    Turn {
-        kept: 0,
-        more: false,
-    }
-}
-
 // Nothing says that the input ends, so the turns are counted down from a number that no run uses up.
 pub fn answer_lines(line: &mut [u8], buf: &mut [u8])
     requires { ⌜ yearsRoom ≤ length (now buf) ⌝ }
@@ -116,11 +126,11 @@ pub fn answer_lines(line: &mut [u8], buf: &mut [u8])
     let mut kept: usize = 0;
     let mut turns = u64::MAX;
     while turns > 0 {
-        let t = answer_some(&mut block, line, kept, buf);
-        kept = t.kept;
-        if !t.more {
+        let read = fill(&mut block);
+        let Turn::Begun(n) = answer_read(&block[..read], line, kept, buf) else {
             return;
-        }
+        };
+        kept = n;
         turns -= 1;
     }
 }

@@ -1,4 +1,5 @@
 // Reads days from standard input, a line each, and writes the month of each to standard output.
+use blocks::Block;
 use libc::STDERR_FILENO;
 use libc::STDIN_FILENO;
 use libc::STDOUT_FILENO;
@@ -8,6 +9,13 @@ ghost use Prim.Native.Nat.{_*_, _≤_};
 ghost use lib.ListN.{length, take};
 ghost use Rattle.lines.specs.Line.{replyRoom};
 ghost use Rattle.blocks.specs.Block.{enough};
+ghost use Rattle.month_lines.specs.Input.{Told};
+
+// What was read: no more, so that the last line was answered in so many bytes; or a block, which was answered.
+enum Read {
+    Last(usize),
+    Part(Block),
+}
 
 // How many bytes of an unfinished line are kept at the buffer's start, and whether to go on.
 struct Turn {
@@ -45,26 +53,39 @@ fn write_out(out: &[u8]) -> bool {
     ok
 }
 
-// One block. Where nothing more is read, what is kept is the last line.
+// The first `have` bytes answered, of which so many were kept. Where no more were read, they are the last line.
+fn answer_read(buf: &mut [u8], kept: usize, have: usize, out: &mut [u8]) -> Read
+    requires { ⌜ (kept ≤ have) × (have ≤ length (now buf)) × (replyRoom * length (now buf) ≤ length (now out)) ⌝ }
+    ensures { λ r. ⌜ Told r (take have (now (buf .entry))) kept (now (buf .exit)) (now (out .exit)) ⌝ }
+{
+    if have == kept {
+        return Read::Last(blocks::answer_lines(&buf[..have], out));
+    }
+    Read::Part(blocks::answer_block(buf, have, out))
+}
+
+// One turn: reads, and writes the replies to what was read.
 fn one_turn(buf: &mut [u8], out: &mut [u8], kept: usize) -> Turn
     requires { ⌜ (kept ≤ enough) × (enough ≤ length (now buf)) × (replyRoom * length (now buf) ≤ length (now out)) ⌝ }
     ensures { λ r. ⌜ r .kept ≤ enough ⌝ }
 {
     let have = fill(buf, kept);
-    if have == kept {
-        let last = blocks::answer_lines(&buf[..kept], out);
-        write_out(&out[..last]);
-        return Turn {
-            kept: 0,
-            more: false,
-        };
-    }
-    let answered = blocks::answer_block(buf, have, out);
-    let written = answered.written;
-    let ok = write_out(&out[..written]);
-    Turn {
-        kept: answered.kept,
-        more: ok,
+    match answer_read(buf, kept, have, out) {
+        Read::Last(n) => {
+            write_out(&out[..n]);
+            Turn {
+                kept: 0,
+                more: false,
+            }
+        }
+        Read::Part(block) => {
+            let n = block.written;
+            let more = write_out(&out[..n]);
+            Turn {
+                kept: block.kept,
+                more,
+            }
+        }
     }
 }
 

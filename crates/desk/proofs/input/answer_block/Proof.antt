@@ -1,22 +1,33 @@
--- `desk::input::answer_block` is safe and ends. What is kept of a line fits its buffer at each turn, by either arm.
--- Assumes nothing.
-use Prim.Native.Nat.{_-_, _≤_}
-use mathlib.Core.Path.{_≡_, ap}
+-- `desk::input::answer_block` meets its contract: byte by byte, what is kept of a line is what its definition says. Assumes nothing.
+use Prim.Native.Nat.{_+_, _-_, _≤_}
+use mathlib.Core.Path.{_≡_, _∙_, sym, ap}
+use mathlib.Core.Bool.{false≢true}
+use mathlib.Core.List.{List, [], _∷_, _++_}
 use mathlib.Core.Logic.{⊎-elim}
-use lib.ListN.{length}
+use denote.Ref.{now}
+use lib.ListN.{length, take, getD}
+use lib.Seq.{take-all}
 use native.Mathlib.Omega.{arith}
+use Rattle.desk.specs.Input.{keptAfter}
+use Rattle.desk.proofs.Kept.{ended, goes-on, at-start}
 use Rattle.desk.proofs.input.answer_block.Statement.{statement}
 use Rattle.desk.proofs.input.answer_block.Tie as tie
 
 abbrev Inv-loop : tie.InvT-loop
 Inv-loop block line₀ kept buf₀ n₀ more₀ i₀ line buf n more i =
-    (i ≤ length block) × (n ≤ length line) × (length line ≡ length line₀) × (length buf ≡ length buf₀)
+    (i ≤ length block)
+    × (n ≤ length line)
+    × (length line ≡ length line₀)
+    × (length buf ≡ length buf₀)
+    × (take n line ≡ keptAfter (length line₀) (take kept line₀) (take i block))
 
 abbrev μ-loop : tie.MeasureT-loop
 μ-loop block line₀ kept buf₀ n₀ more₀ i₀ line buf n more i = length block - i
 
 loop-holds : tie.Need-loop-holds Inv-loop μ-loop
-loop-holds c = omega arith
+loop-holds c =
+    let a = c .before .before .before .args in
+    (omega arith, omega arith, omega arith, omega arith, at-start (length (now (a .line))) (take (a .kept) (now (a .line))) (now (a .block)))
 
 shared-slice-read-b : tie.Need-shared-slice-read-b Inv-loop μ-loop
 shared-slice-read-b c = omega arith
@@ -44,9 +55,33 @@ loop-less c = omega arith
 
 loop-again : tie.Need-loop-again Inv-loop μ-loop
 loop-again c =
+    let l = c .before .before .before .before in
+    let a = l .before .before .before .before .args in
+    let room = length (now (a .line)) in
+    let begun = take (a .kept) (now (a .line)) in
+    let block = now (a .block) in
+    let i = l .loop .i in
+    let b = getD block i 0 in
     ⊎-elim
-    (λ w. omega (arith, ap length (w .7), ap length (w .8)))
-    (λ w. omega (arith, ap length (w .5), ap length (w .6)))
+    (λ w. (
+      omega (arith, ap length (w .7), ap length (w .8)),
+      omega (arith, ap length (w .7), ap length (w .8)),
+      omega (arith, ap length (w .7), ap length (w .8)),
+      omega (arith, ap length (w .7), ap length (w .8)),
+      ap (λ k. take k (c .if2 .line)) (w .9) ∙ sym (ended room begun block i (omega arith) (w .0 .taken)),
+    ))
+    (λ w. (
+      omega (arith, ap length (w .5), ap length (w .6)),
+      omega (arith, ap length (w .5), ap length (w .6)),
+      omega (arith, ap length (w .5), ap length (w .6)),
+      omega (arith, ap length (w .5), ap length (w .6)),
+      ap (λ k. take k (c .if2 .line)) (w .7)
+          ∙ ap (take (w .2 .result)) (w .5)
+          ∙ w .2 .ensures .1
+          ∙ ap (λ k. take k (take (l .loop .n) (l .loop .line) ++ (b ∷ []))) (l .loop .inv .2)
+          ∙ ap (λ s. take room (s ++ (b ∷ []))) (l .loop .inv .4)
+          ∙ sym (goes-on room begun block i (omega arith) (w .0 .left)),
+    ))
     (c .if2 .came)
 
 same-length : tie.Need-same-length Inv-loop μ-loop
@@ -56,7 +91,16 @@ same-length-2 : tie.Need-same-length-2 Inv-loop μ-loop
 same-length-2 c = omega arith
 
 returns : tie.Need-returns Inv-loop μ-loop
-returns c = omega arith
+returns c =
+    let l = c .before .before in
+    let a = l .before .before .before .before .args in
+    let block = now (a .block) in
+    let whole : length block ≤ l .loop .i =
+    ⊎-elim (λ w. absurd (false≢true (sym (w .1 .left) ∙ c .if3 .taken))) (λ w. w .left) (c .before .loop-test .came) in (
+      omega arith,
+      omega arith,
+      l .loop .inv .4 ∙ ap (keptAfter (length (now (a .line))) (take (a .kept) (now (a .line)))) (take-all (l .loop .i) block whole),
+    )
 
 same-length-3 : tie.Need-same-length-3 Inv-loop μ-loop
 same-length-3 c = omega arith

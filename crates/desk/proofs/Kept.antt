@@ -1,0 +1,54 @@
+-- What is kept of a line, byte by byte. Assumes nothing.
+use mathlib.Core.Path.{_≡_, _∙_, refl, ap}
+use mathlib.Core.List.{List, [], _∷_, _++_}
+use Prim.Native.Nat.{ℕ, _+_, _<_}
+use native.Mathlib.Numerals.{add-one}
+use native.Mathlib.Omega.{arith}
+use borrow.Author.Tests.{eq-eqb, ne-eqb}
+use lib.ListN.{length, take, getD}
+use lib.Seq.{take-suc}
+use Rattle.measure.specs.Choice.{if_then_else_, _=?_}
+use Rattle.day_lines.specs.DayLine.{lineEnd}
+use Rattle.measure.specs.Epoch.{shoushi}
+use Rattle.questions.specs.Question.{replyTo}
+use Rattle.replies.specs.ReplyText.{replyText}
+use Rattle.desk.specs.Input.{withByte, keptAfter, lastText}
+
+kept-snoc : (room : ℕ) (line bs : List ℕ) (b : ℕ) → keptAfter room line (bs ++ (b ∷ [])) ≡ withByte room (keptAfter room line bs) b
+unfolding keptAfter
+kept-snoc room line [] b = refl
+kept-snoc room line (x ∷ bs) b = kept-snoc room (withByte room line x) bs b
+
+module _ (room : ℕ) (line block : List ℕ) (i : ℕ) (h : i < length block) where
+  next : keptAfter room line (take (i + 1) block) ≡ withByte room (keptAfter room line (take i block)) (getD block i 0)
+  next =
+      ap (λ (k : ℕ). keptAfter room line (take k block)) (add-one i)
+      ∙ ap (keptAfter room line) (take-suc block i 0 h)
+      ∙ kept-snoc room line (take i block) (getD block i 0)
+
+  -- a line ends, and nothing is kept of it
+  pub ended : getD block i 0 ≡ lineEnd → keptAfter room line (take (i + 1) block) ≡ []
+  unfolding withByte
+  ended e = next ∙ simp (eq-eqb _ _ e)
+
+  -- a line goes on
+  pub goes-on : (getD block i 0 ≡ lineEnd → ⊥)
+      → keptAfter room line (take (i + 1) block) ≡ take room (keptAfter room line (take i block) ++ (getD block i 0 ∷ []))
+  unfolding withByte
+  goes-on e = next ∙ simp (ne-eqb _ _ e)
+
+-- before the first byte
+pub at-start : (room : ℕ) (line block : List ℕ) → line ≡ keptAfter room line (take 0 block)
+unfolding keptAfter
+at-start room line block = refl
+
+-- no line was begun
+pub no-line : (line : List ℕ) → length line ≡ 0 → lastText line ≡ []
+unfolding lastText
+no-line [] h = refl
+no-line (b ∷ bs) h = absurd (omega arith)
+
+pub a-line : (line : List ℕ) → (length line ≡ 0 → ⊥) → lastText line ≡ replyText (replyTo shoushi line)
+unfolding lastText
+a-line [] h = absurd (h refl)
+a-line (b ∷ bs) h = refl
