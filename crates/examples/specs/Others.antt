@@ -29,7 +29,8 @@ use Rattle.months.specs.Head.{headReply}
 use Rattle.kinds.specs.Kind.{ordinary, leap}
 use Rattle.months.specs.Month.{kindAt, placed, monthOfDay, dayReply}
 use Rattle.dates.specs.Date.{dayAt, backReply}
-use Rattle.lists.specs.Records.{recordAt, recordsOf, runOf, monthsInRun, runAsked, listReply, runReply}
+use Rattle.year_rows.specs.Records.{recordAt, recordsOf}
+use Rattle.lists.specs.Lists.{runOf, monthsInRun, runAsked, listReply, runReply}
 use Rattle.day_lines.specs.Digits.{digitOf}
 use Rattle.day_lines.specs.DayLine.{spelled, dayAsked}
 use Rattle.reply_lines.specs.Digits.{digitByte, digitsOf}

@@ -16,8 +16,10 @@ use Rattle.month_law.specs.Calendar.{Calendar, monthsIn}
 use Rattle.month_law.specs.Edition.{calendar}
 use Rattle.month_law.proofs.Lists.{months-in-most}
 use Rattle.month_law.proofs.Edition.{shoushi-lawful}
-use Rattle.lists.specs.Records.{recordWidth, yearRoom, recordsOf, runOf, monthsInRun, listReply, runReply}
-use Rattle.lists.proofs.RecordLaws.{length-records, length-run, months-run-most}
+use Rattle.year_rows.specs.Records.{recordWidth, yearRoom, recordsOf}
+use Rattle.lists.specs.Lists.{runOf, monthsInRun, listReply, runReply}
+use Rattle.year_rows.proofs.RecordLaws.{length-records}
+use Rattle.lists.proofs.RunLaws.{length-run, months-run-most}
 use Rattle.lists.proofs.Asked.{run-admitted}
 use Rattle.words.specs.Ascii.{bytesOf}
 use Rattle.texts.specs.Text.{piece, taken, filled}

@@ -9,7 +9,8 @@ use Rattle.measure.specs.Epoch.{shoushi}
 use Rattle.seasons.specs.Terms.{terms, termList, termsReply}
 use Rattle.month_law.specs.Calendar.{monthsIn}
 use Rattle.month_law.specs.Edition.{calendar}
-use Rattle.lists.specs.Records.{yearRoom, recordsOf, runOf, listReply, runReply}
+use Rattle.year_rows.specs.Records.{yearRoom, recordsOf}
+use Rattle.lists.specs.Lists.{runOf, listReply, runReply}
 use Rattle.words.specs.Ascii.{bytesOf}
 use Rattle.texts.specs.Text.{filled}
 use Rattle.line_texts.specs.LineText.{refusalText, numbersText}

@@ -1,15 +1,15 @@
 // The lines of lists: the terms of a year, and the months of years as records.
 use line_texts::put_refusal;
-use lists::RECORD_WIDTH;
 use measure::Answer;
 use texts::fill;
+use year_rows::RECORD_WIDTH;
 ghost use mathlib.Core.Path.{_≡_};
 ghost use Prim.Native.Nat.{_+_, _*_, _≤_};
 ghost use lib.ListN.{length};
 ghost use Rattle.measure.specs.Row.{over};
 ghost use Rattle.measure.specs.Reply.{answer};
 ghost use Rattle.texts.specs.Text.{filled};
-ghost use Rattle.lists.specs.Records.{recordWidth};
+ghost use Rattle.year_rows.specs.Records.{recordWidth};
 ghost use Rattle.line_texts.specs.LineText.{lineRoom};
 ghost use Rattle.list_texts.specs.ListText.{recordHoles, recordsText, termsText, yearText, yearsText, recordRoom, yearsRoom};
 

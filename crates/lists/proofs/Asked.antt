@@ -12,7 +12,8 @@ use Rattle.measure.specs.Epoch.{Epoch}
 use Rattle.measure.specs.declared.Answer.{Answer}
 use Rattle.measure.proofs.Choice.{lt-or-ge}
 use Rattle.month_law.specs.Calendar.{Calendar, monthsIn}
-use Rattle.lists.specs.Records.{yearRoom, recordsOf, runOf, monthsInRun, runAsked, listReply, runReply}
+use Rattle.year_rows.specs.Records.{yearRoom, recordsOf}
+use Rattle.lists.specs.Lists.{runOf, monthsInRun, runAsked, listReply, runReply}
 
 -- what a reply says, once its case is known
 pub said-as : {reply : Reply ℕ} (got known : Answer) → answerSaid got ≡ reply → got ≡ known → answerSaid known ≡ reply

@@ -17,7 +17,7 @@ use Rattle.month_law.proofs.Runs.{year-listed}
 use Rattle.month_law.proofs.Edition.{shoushi-lawful}
 use Rattle.kinds.specs.Kind.{ordinary, leap, numberIn, markIn}
 use Rattle.months.specs.Month.{MonthOfDay, earliest, latest, kindAt, placed, monthOfDay}
-use Rattle.lists.specs.Records.{recordAt}
+use Rattle.year_rows.specs.Records.{recordAt}
 use Rattle.months.proofs.Reach.{month-held}
 use Rattle.months.proofs.Dated.{day-dated, day-admitted}
 

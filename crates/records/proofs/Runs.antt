@@ -13,9 +13,10 @@ use Rattle.moons.specs.Lunation.{lastLunation}
 use Rattle.month_law.specs.Calendar.{Calendar, head, monthsIn}
 use Rattle.month_law.specs.Edition.{calendar}
 use Rattle.month_law.proofs.Edition.{shoushi-lawful}
-use Rattle.lists.specs.Records.{recordsOf, runOf, monthsInRun, listReply, runReply}
+use Rattle.year_rows.specs.Records.{recordsOf}
+use Rattle.lists.specs.Lists.{runOf, monthsInRun, listReply, runReply}
 use Rattle.months.proofs.Reach.{head-most}
-use Rattle.lists.proofs.RecordLaws.{months-run-most}
+use Rattle.lists.proofs.RunLaws.{months-run-most}
 use Rattle.lists.proofs.Asked.{Outcome, no, yes, outcome, reply-of-one, run-of-one}
 use Rattle.records.specs.MonthRecords.{inRecords, monthsFrom, over, rowAfter, writtenIn}
 use Rattle.records.specs.declared.MonthRecord.{MonthRecord}

@@ -10,8 +10,9 @@ use lib.ListN.{length, set, length-append}
 use Rattle.month_law.specs.Calendar.{Calendar, head, monthsIn}
 use Rattle.month_law.specs.Lawful.{Lawful}
 use Rattle.month_law.proofs.Months.{head-rises}
-use Rattle.lists.specs.Records.{recordAt, recordOf, recordsOf, runOf, monthsInRun}
-use Rattle.lists.proofs.RecordLaws.{record-of}
+use Rattle.year_rows.specs.Records.{recordAt, recordOf, recordsOf}
+use Rattle.lists.specs.Lists.{runOf, monthsInRun}
+use Rattle.year_rows.proofs.RecordLaws.{record-of}
 use Rattle.records.specs.MonthRecords.{inRecords, recordIn, monthsFrom, over}
 use Rattle.records.specs.declared.MonthRecord.{MonthRecord}
 use Rattle.records.proofs.Rows.{put}

@@ -22,7 +22,8 @@ use Rattle.measure.specs.declared.Answer.{Answer}
 use Rattle.measure.proofs.Determined.{one-answer}
 use Rattle.month_law.specs.Calendar.{monthsIn}
 use Rattle.month_law.specs.Edition.{calendar}
-use Rattle.lists.specs.Records.{recordsOf, runOf, listReply, runReply}
+use Rattle.year_rows.specs.Records.{recordsOf}
+use Rattle.lists.specs.Lists.{runOf, listReply, runReply}
 use Rattle.records.specs.declared.MonthRecord.{MonthRecord}
 use Rattle.records.proofs.Runs.{Says, YearSays, RunSays}
 use Rattle.records.proofs.run_records as run-records

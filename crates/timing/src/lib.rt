@@ -8,7 +8,8 @@ ghost use Rattle.measure.specs.Reply.{answerSaid};
 ghost use Rattle.measure.specs.Row.{rowAfter};
 ghost use Rattle.moons.specs.TrueMoon.{trueReply};
 ghost use Rattle.month_law.specs.Edition.{calendar};
-ghost use Rattle.lists.specs.Records.{recordWidth, runOf, runReply};
+ghost use Rattle.year_rows.specs.Records.{recordWidth};
+ghost use Rattle.lists.specs.Lists.{runOf, runReply};
 ghost use Rattle.timing.specs.Timed.{timed};
 
 // The true moon's running time.

@@ -20,7 +20,8 @@ use Rattle.month_law.proofs.Months.{first-rises}
 use Rattle.month_law.proofs.Edition.{figures, shoushi-lawful}
 use Rattle.kinds.specs.Kind.{Kind, ordinary, leap, numberIn, markIn}
 use Rattle.months.specs.Month.{MonthOfDay, dayReply}
-use Rattle.lists.specs.Records.{yearRoom, recordAt, recordsOf, listReply}
+use Rattle.year_rows.specs.Records.{yearRoom, recordAt, recordsOf}
+use Rattle.lists.specs.Lists.{listReply}
 use Rattle.months.proofs.Reach.{list-most}
 use Rattle.record_bytes.specs.Bytes.{bytesOf}
 use Rattle.record_bytes.proofs.ReadBack.{numbersRead, Small, small-append, bytes-back}

@@ -19,8 +19,9 @@ use Rattle.month_law.specs.Calendar.{Calendar, monthsIn}
 use Rattle.month_law.specs.Edition.{calendar}
 use Rattle.month_law.proofs.Lists.{months-in-most}
 use Rattle.month_law.proofs.Edition.{shoushi-lawful}
-use Rattle.lists.specs.Records.{recordWidth, yearRoom, recordsOf, listReply}
-use Rattle.lists.proofs.RecordLaws.{length-records}
+use Rattle.year_rows.specs.Records.{recordWidth, yearRoom, recordsOf}
+use Rattle.lists.specs.Lists.{listReply}
+use Rattle.year_rows.proofs.RecordLaws.{length-records}
 
 abbrev c : Calendar
 c = calendar shoushi

@@ -1,5 +1,4 @@
 // What the viewer calls: the month of a day, and the list of a year as bytes.
-use lists::RECORD_WIDTH;
 use lists::YEAR_ROOM;
 use measure::Answer;
 use measure::SHORT_ROW;
@@ -7,6 +6,7 @@ use months::Month;
 use months::Reply;
 use record_bytes::NUMBER_BYTES;
 use record_bytes::put_numbers;
+use year_rows::RECORD_WIDTH;
 ghost use mathlib.Core.Path.{_≡_};
 ghost use Prim.Native.Nat.{_<_};
 ghost use Rattle.measure.specs.Epoch.{shoushi};
@@ -15,7 +15,8 @@ ghost use Rattle.measure.specs.Row.{rowAfter};
 ghost use Rattle.month_law.specs.Calendar.{monthsIn};
 ghost use Rattle.month_law.specs.Edition.{calendar};
 ghost use Rattle.months.specs.Month.{dayReply, monthSaid};
-ghost use Rattle.lists.specs.Records.{recordsOf, listReply};
+ghost use Rattle.year_rows.specs.Records.{recordsOf};
+ghost use Rattle.lists.specs.Lists.{listReply};
 ghost use Rattle.record_bytes.specs.Bytes.{bytesOf};
 ghost use Rattle.viewer.specs.Room.{roomIn};
 ghost use Rattle.viewer.specs.Told.{Fits, dayTold, countTold};

@@ -11,7 +11,7 @@ use lib.Seq.{take-all}
 use Rattle.measure.specs.Row.{over}
 use Rattle.measure.specs.Reply.{answer}
 use Rattle.measure.proofs.Row.{restFrom, put, grow}
-use Rattle.lists.specs.Records.{recordWidth}
+use Rattle.year_rows.specs.Records.{recordWidth}
 use Rattle.texts.specs.Text.{filled}
 use Rattle.list_texts.specs.ListText.{recordHoles, recordsHoles, recordsText, recordRoom}
 use Rattle.line_texts.proofs.LineLaws.{told-so}

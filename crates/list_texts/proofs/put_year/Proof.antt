@@ -7,7 +7,8 @@ use Rattle.measure.specs.Reply.{answer, answerSaid}
 use Rattle.measure.specs.Epoch.{shoushi}
 use Rattle.month_law.specs.Calendar.{monthsIn}
 use Rattle.month_law.specs.Edition.{calendar}
-use Rattle.lists.specs.Records.{yearRoom, recordsOf, listReply}
+use Rattle.year_rows.specs.Records.{yearRoom, recordsOf}
+use Rattle.lists.specs.Lists.{listReply}
 use Rattle.list_texts.specs.ListText.{yearText}
 use Rattle.line_texts.proofs.LineLaws.{told-so}
 use Rattle.list_texts.proofs.RecordLaws.{records-answered, records-refused, year-most, year-long}

@@ -10,7 +10,8 @@ use Rattle.measure.specs.Reply.{Reply, answer, answerSaid}
 use Rattle.measure.specs.Row.{rowAfter}
 use Rattle.measure.specs.Epoch.{shoushi}
 use Rattle.month_law.specs.Edition.{calendar}
-use Rattle.lists.specs.Records.{recordWidth, runOf, runReply}
+use Rattle.year_rows.specs.Records.{recordWidth}
+use Rattle.lists.specs.Lists.{runOf, runReply}
 use Rattle.list_texts.specs.ListText.{yearsText, mostRecords}
 use Rattle.line_texts.proofs.LineLaws.{told-so}
 use Rattle.list_texts.proofs.RecordLaws.{records-answered, records-refused, run-most, run-long}

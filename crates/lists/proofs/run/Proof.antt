@@ -7,7 +7,8 @@ use denote.Ref.{now}
 use Rattle.measure.specs.Reply.{answer}
 use Rattle.measure.specs.Epoch.{shoushi}
 use Rattle.month_law.specs.Edition.{calendar}
-use Rattle.lists.specs.Records.{recordWidth, monthsInRun, runReply}
+use Rattle.year_rows.specs.Records.{recordWidth}
+use Rattle.lists.specs.Lists.{monthsInRun, runReply}
 use Rattle.lists.proofs.Asked.{Admitted, said-as, run-refused, run-admitted}
 use Rattle.lists.proofs.run.Statement.{statement}
 use Rattle.lists.proofs.run.Tie as tie

@@ -1,7 +1,7 @@
 -- `lists::run_asked` meets its contract. Assumes nothing.
 use borrow.Author.Needs.{needs}
 use borrow.Author.Tests.{eq-eqb, ne-eqb, lt-ltb, le-ltb}
-use Rattle.lists.specs.Records.{runAsked}
+use Rattle.lists.specs.Lists.{runAsked}
 use Rattle.lists.proofs.run_asked.Statement.{statement}
 use Rattle.lists.proofs.run_asked.Tie as tie
 

@@ -11,7 +11,8 @@ use Rattle.month_law.specs.Calendar.{Calendar}
 use Rattle.month_law.specs.Edition.{calendar}
 use Rattle.month_law.proofs.Edition.{shoushi-lawful}
 use Rattle.month_law.proofs.Lists.{months-in-most}
-use Rattle.lists.specs.Records.{recordWidth, runOf, monthsInRun}
+use Rattle.year_rows.specs.Records.{recordWidth}
+use Rattle.lists.specs.Lists.{runOf, monthsInRun}
 use Rattle.months.proofs.Spans.{months-between, head-later}
 use Rattle.lists.proofs.RunList.{Running, run-begins, run-room, run-goes-on}
 use Rattle.lists.proofs.write_years.Statement.{statement}

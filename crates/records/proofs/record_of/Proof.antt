@@ -14,9 +14,9 @@ use Rattle.month_law.proofs.Edition.{shoushi-lawful}
 use Rattle.kinds.specs.Kind.{Kind, numberIn, markIn, kindSaid}
 use Rattle.months.specs.Month.{latest}
 use Rattle.months.specs.Span.{LastBefore, kindBy}
-use Rattle.lists.specs.Records.{recordOf}
+use Rattle.year_rows.specs.Records.{recordOf}
 use Rattle.months.proofs.Reach.{first-most, term-small}
-use Rattle.lists.proofs.RecordLaws.{record-told}
+use Rattle.year_rows.proofs.RecordLaws.{record-told}
 use Rattle.records.specs.MonthRecords.{recordBy, recordIn}
 use Rattle.records.proofs.record_of.Statement.{statement}
 use Rattle.records.proofs.record_of.Tie as tie

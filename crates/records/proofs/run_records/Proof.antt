@@ -48,7 +48,7 @@ use Rattle.measure.proofs.Answer as E
 use Rattle.measure.proofs.Answer.Laws as E′
 use Rattle.month_law.specs.Calendar.{Calendar, head}
 use Rattle.month_law.specs.Edition.{calendar}
-use Rattle.lists.specs.Records.{runReply}
+use Rattle.lists.specs.Lists.{runReply}
 use Rattle.records.specs.MonthRecords.{monthsFrom, over, writtenIn}
 use Rattle.records.specs.declared.MonthRecord.{MonthRecord}
 use Rattle.records.proofs.Runs.{RunSays, written-fits, written-counted, written-run}

@@ -8,7 +8,7 @@ use Rattle.measure.specs.Epoch.{shoushi}
 use Rattle.month_law.specs.Calendar.{Calendar, head}
 use Rattle.month_law.specs.Edition.{calendar}
 use Rattle.month_law.proofs.Edition.{shoushi-lawful}
-use Rattle.lists.specs.Records.{runReply, monthsInRun}
+use Rattle.lists.specs.Lists.{runReply, monthsInRun}
 use Rattle.lists.proofs.Asked.{Admitted, said-as, run-refused, run-admitted}
 use Rattle.records.proofs.Structs.{run-ends}
 use Rattle.records.proofs.run_reply.Statement.{statement}

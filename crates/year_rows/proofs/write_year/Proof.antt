@@ -13,13 +13,13 @@ use Rattle.moons.specs.Lunation.{lastLunation}
 use Rattle.month_law.specs.Calendar.{Calendar, head}
 use Rattle.month_law.specs.Edition.{calendar}
 use Rattle.month_law.proofs.Edition.{shoushi-lawful}
-use Rattle.lists.specs.Records.{recordWidth, yearRoom}
+use Rattle.year_rows.specs.Records.{recordWidth, yearRoom}
 use Rattle.months.specs.declared.Span.{Span}
 use Rattle.months.proofs.Spans.{lunation-is, over-by, not-over}
 use Rattle.months.proofs.Reach.{head-most}
-use Rattle.lists.proofs.YearList.{Listing, begins, has-room, goes-on, ends}
-use Rattle.lists.proofs.write_year.Statement.{statement}
-use Rattle.lists.proofs.write_year.Tie as tie
+use Rattle.year_rows.proofs.YearList.{Listing, begins, has-room, goes-on, ends}
+use Rattle.year_rows.proofs.write_year.Statement.{statement}
+use Rattle.year_rows.proofs.write_year.Tie as tie
 
 abbrev cal : Calendar
 cal = calendar shoushi

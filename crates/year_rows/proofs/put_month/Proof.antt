@@ -10,13 +10,13 @@ use Rattle.month_law.specs.Edition.{calendar}
 use Rattle.month_law.proofs.Edition.{shoushi-lawful}
 use Rattle.kinds.specs.Kind.{Kind, kindSaid, numberIn, markIn}
 use Rattle.months.specs.Span.{spanOf, kindBy, LastBefore}
-use Rattle.lists.specs.Records.{recordOf}
+use Rattle.year_rows.specs.Records.{recordOf}
 use Rattle.months.specs.declared.Span.{Span}
 use Rattle.months.proofs.Reach.{end-small, term-small}
 use Rattle.months.proofs.Spans.{first-is, next-is, first-before, term-come, last-of-month}
-use Rattle.lists.proofs.RecordLaws.{recordBy, record-told}
-use Rattle.lists.proofs.put_month.Statement.{statement}
-use Rattle.lists.proofs.put_month.Tie as tie
+use Rattle.year_rows.proofs.RecordLaws.{recordBy, record-told}
+use Rattle.year_rows.proofs.put_month.Statement.{statement}
+use Rattle.year_rows.proofs.put_month.Tie as tie
 
 abbrev cal : Calendar
 cal = calendar shoushi

@@ -1,39 +1,20 @@
--- A year's list and a run of years, as month records in a lent row of numbers.
+-- A year's list and a run of years in a lent row: what is written, and the replies.
 -- Assumes nothing.
-use mathlib.Core.List.{List, [], _∷_, _++_}
+use mathlib.Core.List.{List, [], _++_}
 use Prim.Native.Nat.{ℕ, zero, suc, _+_, _-_, _*_}
 use Rattle.measure.specs.Choice.{_<?_, _=?_}
 use Rattle.measure.specs.Reply.{Reply, answer, noYear, shortRow, refuseIf}
 use Rattle.measure.specs.Units.{lastYear}
 use Rattle.measure.specs.Epoch.{Epoch}
-use Rattle.month_law.specs.Calendar.{Calendar, lengthOf, head, monthsIn, yearOf, numberAt, leapMark}
+use Rattle.month_law.specs.Calendar.{Calendar, monthsIn}
 use Rattle.month_law.specs.Edition.{calendar}
-
--- how many numbers a record has, and how many records a row needs for each year
-abbrev pub recordWidth : ℕ
-recordWidth = 4
-
-abbrev pub yearRoom : ℕ
-yearRoom = 13
+use Rattle.year_rows.specs.Records.{yearRoom, recordsOf}
 
 module _ (c : Calendar) where
-  -- first day, length, number, leap mark of the month at place p of year n
-  unfoldable pub recordAt : ℕ → ℕ → List ℕ
-  recordAt n p = c .first (head c n + p) ∷ lengthOf c (head c n + p) ∷ numberAt c n p ∷ leapMark c n p ∷ []
-
-  -- the record of month l, by the year in whose list it stands
-  unfoldable pub recordOf : ℕ → List ℕ
-  recordOf l = let n = yearOf c l in recordAt n (l - head c n)
-
-  -- the first k records of year n
-  unfoldable pub recordsOf : ℕ → ℕ → List ℕ
-  recordsOf n zero = []
-  recordsOf n (suc k) = recordsOf n k ++ recordAt n k
-
   -- the lists of k years from n on, each from the place where the one before it ended
   unfoldable pub runOf : ℕ → ℕ → List ℕ
   runOf n zero = []
-  runOf n (suc k) = runOf n k ++ recordsOf (n + k) (monthsIn c (n + k))
+  runOf n (suc k) = runOf n k ++ recordsOf c (n + k) (monthsIn c (n + k))
 
   -- how many months they have
   unfoldable pub monthsInRun : ℕ → ℕ → ℕ

@@ -8,8 +8,8 @@ use Rattle.measure.specs.Epoch.{shoushi}
 use Rattle.moons.specs.TrueMoon.{firstDay}
 use Rattle.month_law.specs.Edition.{calendar}
 use Rattle.months.proofs.Spans.{next-is}
-use Rattle.lists.proofs.span_after.Statement.{statement}
-use Rattle.lists.proofs.span_after.Tie as tie
+use Rattle.year_rows.proofs.span_after.Statement.{statement}
+use Rattle.year_rows.proofs.span_after.Tie as tie
 
 add-t2 : tie.Need-add-t2
 add-t2 c = search needs

@@ -1,22 +1,21 @@
--- Laws of records: each is told by its month's kind, a list has one for each month, and the lists of a run lie end to end.
+-- Laws of records: each is told by its month's kind, and a list has one for each month.
 -- Assumes nothing.
 use mathlib.Core.Bool.{Bool, true, false}
 use mathlib.Core.List.{List, [], _∷_, _++_}
 use mathlib.Core.Path.{_≡_, refl, ap, ap₂, sym, _∙_}
-use Prim.Native.Nat.{ℕ, zero, suc, _+_, _-_, _*_, _/_, _≤_, _<_}
-use native.Mathlib.Numerals.{add-one}
+use Prim.Native.Nat.{ℕ, zero, suc, _+_, _-_, _*_, _/_, _<_}
 use native.Mathlib.Omega.{arith}
 use lib.ListN.{length, length-append}
 use Rattle.measure.specs.Choice.{if_then_else_}
 use Rattle.month_law.specs.Count.{oneIf}
 use Rattle.month_law.specs.Calendar.{Calendar, head, monthsIn, yearOf, leapAt, numberAt}
 use Rattle.month_law.specs.Lawful.{Lawful}
-use Rattle.month_law.proofs.Lists.{place-listed, listed-place, months-in-most}
+use Rattle.month_law.proofs.Lists.{place-listed, listed-place}
 use Rattle.month_law.proofs.Runs.{year-of}
 use Rattle.kinds.specs.Kind.{Kind, ordinary, leap, numberIn, markIn}
 use Rattle.months.specs.Month.{kindAt}
 use Rattle.months.specs.Span.{LastBefore, kindBy}
-use Rattle.lists.specs.Records.{recordWidth, yearRoom, recordAt, recordOf, recordsOf, runOf, monthsInRun}
+use Rattle.year_rows.specs.Records.{recordWidth, recordAt, recordOf, recordsOf}
 use Rattle.months.proofs.ByTerm.{year-told, year-is, kind-told}
 
 -- the record of a month by its two days and its kind
@@ -47,21 +46,6 @@ module _ (c : Calendar) where
   length-records n zero = refl
   length-records n (suc k) = simp length-append (omega (arith, length-records n k))
 
-  -- and a run one list more for each year
-  pub run-more : (n k : ℕ) → runOf c n (k + 1) ≡ runOf c n k ++ recordsOf c (n + k) (monthsIn c (n + k))
-  unfolding runOf
-  run-more n k = ap (runOf c n) (add-one k)
-
-  pub months-more : (n k : ℕ) → monthsInRun c n (k + 1) ≡ monthsInRun c n k + monthsIn c (n + k)
-  unfolding monthsInRun
-  months-more n k = ap (monthsInRun c n) (add-one k)
-
-  pub length-run : (n k : ℕ) → length (runOf c n k) ≡ recordWidth * monthsInRun c n k
-  unfolding runOf monthsInRun
-  length-run n zero = refl
-  length-run n (suc k) =
-      simp length-append (omega (arith, length-run n k, length-records (n + k) (monthsIn c (n + k))))
-
 module _ (c : Calendar) (ok : Lawful c) where
   -- the record of a month is that of its place in its year's list
   pub record-of : (n p : ℕ) → p < monthsIn c n → recordOf c (head c n + p) ≡ recordAt c n p
@@ -82,9 +66,3 @@ module _ (c : Calendar) (ok : Lawful c) where
       ap₂ (λ (m : ℕ) (kind : Kind). recordBy (c .first m) (c .first (suc m)) kind) (sym at) (kind-told c ok l j last)
       ∙ by-kind c n p
       ∙ ap (λ (m : ℕ). recordAt c m (l - head c m)) (year-is c ok l j last)
-
-  -- no run has more records than a row has room for
-  pub months-run-most : (n k : ℕ) → monthsInRun c n k ≤ yearRoom * k
-  unfolding monthsInRun
-  months-run-most n zero = omega arith
-  months-run-most n (suc k) = omega (arith, months-run-most n k, months-in-most c ok (n + k))

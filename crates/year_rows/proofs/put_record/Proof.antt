@@ -7,8 +7,8 @@ use lib.ListN.{length-set}
 use denote.Ref.{now}
 use Rattle.measure.specs.Row.{over}
 use Rattle.measure.proofs.Row.{put}
-use Rattle.lists.proofs.put_record.Statement.{statement}
-use Rattle.lists.proofs.put_record.Tie as tie
+use Rattle.year_rows.proofs.put_record.Statement.{statement}
+use Rattle.year_rows.proofs.put_record.Tie as tie
 
 slice-write-row : tie.Need-slice-write-row
 slice-write-row c = search needs

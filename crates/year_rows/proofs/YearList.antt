@@ -13,9 +13,9 @@ use Rattle.month_law.specs.Lawful.{Lawful}
 use Rattle.month_law.proofs.Months.{head-rises}
 use Rattle.month_law.proofs.Lists.{months-in-most}
 use Rattle.months.specs.Span.{spanOf}
-use Rattle.lists.specs.Records.{recordWidth, yearRoom, recordAt, recordOf, recordsOf}
+use Rattle.year_rows.specs.Records.{recordWidth, yearRoom, recordAt, recordOf, recordsOf}
 use Rattle.months.specs.declared.Span.{Span}
-use Rattle.lists.proofs.RecordLaws.{records-more, length-records, record-of}
+use Rattle.year_rows.proofs.RecordLaws.{records-more, length-records, record-of}
 
 -- a span's place in the list of year n
 abbrev pub placeIn : Calendar → ℕ → Span → ℕ
