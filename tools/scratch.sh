@@ -7,7 +7,7 @@ scratch() {
     trap 'rm -rf "$TMPDIR"' EXIT
     # rt runs a program as nobody, who must be able to reach it
     chmod 711 "$TMPDIR"
-    if cp "$(command -v true)" "$TMPDIR/true" && "$TMPDIR/true"; then
+    if cp "$(command -v env)" "$TMPDIR/env" && "$TMPDIR/env" true; then
         export TMPDIR
     else
         rm -rf "$TMPDIR"
