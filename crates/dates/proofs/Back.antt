@@ -14,10 +14,10 @@ use Rattle.measure.specs.Epoch.{shoushi}
 use Rattle.measure.proofs.Choice.{lt-or-ge, both-pass, left-passes, right-passes}
 use Rattle.month_law.specs.Calendar.{Calendar, lengthOf, head, monthsIn}
 use Rattle.month_law.specs.Demand.{Date, Dated}
-use Rattle.month_law.specs.Edition.{calendar}
+use Rattle.edition.specs.Edition.{calendar}
 use Rattle.month_law.proofs.Days.{dateOf, dated, date-back}
-use Rattle.month_law.proofs.Edition.{figures, shoushi-lawful}
-use Rattle.month_law.proofs.Demand.{demand}
+use Rattle.edition.proofs.Edition.{figures, shoushi-lawful}
+use Rattle.edition.proofs.Demand.{demand}
 use Rattle.months.specs.Month.{MonthOfDay, earliest, latest, placed, monthOfDay, dayReply}
 use Rattle.dates.specs.Date.{dayAt, backReply, hasDate}
 

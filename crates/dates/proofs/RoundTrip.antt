@@ -11,7 +11,7 @@ use Rattle.measure.specs.Units.{lastYear}
 use Rattle.measure.specs.Epoch.{shoushi}
 use Rattle.month_law.specs.Calendar.{Calendar}
 use Rattle.month_law.specs.Demand.{Dated}
-use Rattle.month_law.specs.Edition.{calendar}
+use Rattle.edition.specs.Edition.{calendar}
 use Rattle.month_law.proofs.Days.{dateOf}
 use Rattle.months.specs.Month.{earliest, latest, placed, monthOfDay, dayReply}
 use Rattle.months.proofs.Dated.{day-dated, day-admitted}

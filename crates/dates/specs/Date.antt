@@ -7,7 +7,7 @@ use Rattle.measure.specs.Reply.{Reply, answer, refused, noYear, outside, refuse
 use Rattle.measure.specs.Units.{lastYear}
 use Rattle.measure.specs.Epoch.{Epoch}
 use Rattle.month_law.specs.Calendar.{Calendar, lengthOf, head, monthsIn}
-use Rattle.month_law.specs.Edition.{calendar}
+use Rattle.edition.specs.Edition.{calendar}
 use Rattle.months.specs.Month.{MonthOfDay}
 
 -- day m of the month at place p of year n

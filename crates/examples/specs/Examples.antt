@@ -21,7 +21,7 @@ use Rattle.moons.specs.TrueMoon.{corrected, correction, correctionOf, moved, tr
 use Rattle.month_law.specs.Steps.{seek}
 use Rattle.month_law.specs.Count.{count}
 use Rattle.month_law.specs.Calendar.{nameOf, lengthOf, monthOf, head, monthsIn, held, leapAt, numberAt}
-use Rattle.month_law.specs.Edition.{middleDay, calendar}
+use Rattle.edition.specs.Edition.{middleDay, calendar}
 use Rattle.kinds.specs.Kind.{leap}
 use Rattle.months.specs.Month.{kindAt}
 

@@ -24,7 +24,7 @@ use Rattle.moons.specs.TrueMoon.{corrected, correction, correctionOf, moved, tr
 use Rattle.month_law.specs.Steps.{seek}
 use Rattle.month_law.specs.Count.{count}
 use Rattle.month_law.specs.Calendar.{nameOf, monthOf, head, yearOf, held, leapAt, numberAt}
-use Rattle.month_law.specs.Edition.{middleDay, calendar}
+use Rattle.edition.specs.Edition.{middleDay, calendar}
 use Rattle.months.specs.Head.{headReply}
 use Rattle.kinds.specs.Kind.{ordinary, leap}
 use Rattle.months.specs.Month.{kindAt, placed, monthOfDay, dayReply}

@@ -13,9 +13,9 @@ use Rattle.measure.specs.Row.{over, rowAfter}
 use Rattle.measure.specs.Units.{lastYear}
 use Rattle.measure.specs.Epoch.{shoushi}
 use Rattle.month_law.specs.Calendar.{Calendar, monthsIn}
-use Rattle.month_law.specs.Edition.{calendar}
+use Rattle.edition.specs.Edition.{calendar}
 use Rattle.month_law.proofs.Lists.{months-in-most}
-use Rattle.month_law.proofs.Edition.{shoushi-lawful}
+use Rattle.edition.proofs.Edition.{shoushi-lawful}
 use Rattle.year_rows.specs.Records.{recordWidth, yearRoom, recordsOf}
 use Rattle.lists.specs.Lists.{runOf, monthsInRun, listReply, runReply}
 use Rattle.year_rows.proofs.RecordLaws.{length-records}

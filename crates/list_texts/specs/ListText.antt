@@ -8,7 +8,7 @@ use Rattle.measure.specs.Units.{lastYear}
 use Rattle.measure.specs.Epoch.{shoushi}
 use Rattle.seasons.specs.Terms.{terms, termList, termsReply}
 use Rattle.month_law.specs.Calendar.{monthsIn}
-use Rattle.month_law.specs.Edition.{calendar}
+use Rattle.edition.specs.Edition.{calendar}
 use Rattle.year_rows.specs.Records.{yearRoom, recordsOf}
 use Rattle.lists.specs.Lists.{runOf, listReply, runReply}
 use Rattle.words.specs.Ascii.{bytesOf}

@@ -11,10 +11,10 @@ use Rattle.measure.specs.Epoch.{shoushi}
 use Rattle.measure.specs.Days.{sixtyName}
 use Rattle.month_law.specs.Count.{oneIf}
 use Rattle.month_law.specs.Calendar.{Calendar, lengthOf, monthOf, head, monthsIn, yearOf, leapAt, numberAt, leapMark}
-use Rattle.month_law.specs.Edition.{calendar}
+use Rattle.edition.specs.Edition.{calendar}
 use Rattle.month_law.proofs.Lists.{listed-place}
 use Rattle.month_law.proofs.Runs.{year-listed}
-use Rattle.month_law.proofs.Edition.{shoushi-lawful}
+use Rattle.edition.proofs.Edition.{shoushi-lawful}
 use Rattle.kinds.specs.Kind.{ordinary, leap, numberIn, markIn}
 use Rattle.months.specs.Month.{MonthOfDay, earliest, latest, kindAt, placed, monthOfDay}
 use Rattle.year_rows.specs.Records.{recordAt}

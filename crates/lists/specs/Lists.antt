@@ -7,7 +7,7 @@ use Rattle.measure.specs.Reply.{Reply, answer, noYear, shortRow, refuseIf}
 use Rattle.measure.specs.Units.{lastYear}
 use Rattle.measure.specs.Epoch.{Epoch}
 use Rattle.month_law.specs.Calendar.{Calendar, monthsIn}
-use Rattle.month_law.specs.Edition.{calendar}
+use Rattle.edition.specs.Edition.{calendar}
 use Rattle.year_rows.specs.Records.{yearRoom, recordsOf}
 
 module _ (c : Calendar) where

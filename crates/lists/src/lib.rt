@@ -14,7 +14,7 @@ ghost use Rattle.measure.specs.Row.{over, rowAfter};
 ghost use Rattle.measure.specs.Units.{lastYear};
 ghost use Rattle.measure.specs.Epoch.{shoushi};
 ghost use Rattle.month_law.specs.Calendar.{monthsIn};
-ghost use Rattle.month_law.specs.Edition.{calendar};
+ghost use Rattle.edition.specs.Edition.{calendar};
 ghost use Rattle.year_rows.specs.Records.{recordWidth, yearRoom, recordsOf};
 ghost use Rattle.lists.specs.Lists.{runOf, monthsInRun, runAsked, listReply, runReply};
 

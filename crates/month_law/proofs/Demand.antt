@@ -1,19 +1,15 @@
--- Demand 3: the month law of any lawful calendar, and so of the Shoushi for the years 0 to 999.
+-- Demand 3: the month law of any lawful calendar.
 -- Assumes nothing.
 use mathlib.Core.Path.{_≡_, ap, _∙_}
 use Prim.Native.Nat.{ℕ, suc, _+_, _≤_}
 use native.Mathlib.Omega.{arith}
-use Rattle.measure.specs.Units.{lastYear}
-use Rattle.measure.specs.Epoch.{shoushi}
 use Rattle.month_law.specs.Calendar.{Calendar, head}
 use Rattle.month_law.specs.Lawful.{Lawful}
-use Rattle.month_law.specs.Edition.{calendar}
 use Rattle.month_law.specs.Demand.{JustOne, Date, Dated, MonthLaw}
 use Rattle.month_law.proofs.Rising.{Within}
 use Rattle.month_law.proofs.Months.{first-rises, head-zero}
 use Rattle.month_law.proofs.Lists.{twelve-or-thirteen, thirteen-leap, leap-thirteen}
 use Rattle.month_law.proofs.Days.{length-of, one-date, run-days}
-use Rattle.month_law.proofs.Edition.{figures, shoushi-lawful}
 
 module _ (c : Calendar) (ok : Lawful c) (last earliest latest beyond : ℕ) (first-day : c .first 0 ≡ earliest)
     (next-head : head c (suc last) ≡ beyond) (next-day : c .first beyond ≡ suc latest) where
@@ -54,9 +50,3 @@ module _ (c : Calendar) (ok : Lawful c) (last earliest latest beyond : ℕ) (fir
         only-leap = λ n p h. leap-thirteen c ok n p;
         names = λ n p h k. omega (arith, first-rises c ok (head c n + p));
       }
-
--- the days 35 to 365,268, and the lunations before 12,368
-pub demand : MonthLaw (calendar shoushi) lastYear 35 365_268 12_368
-demand =
-    month-law (calendar shoushi) shoushi-lawful lastYear 35 365_268 12_368 (figures .first-0) (figures .head-1000)
-    (figures .first-1000)

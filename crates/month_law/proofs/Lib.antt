@@ -1,12 +1,5 @@
-pub mod Signed
-pub mod Gentle
-pub mod SolarStep
-pub mod LunarStep
 pub mod Rising
 pub mod Count
-pub mod MotionStep
-pub mod CorrectionStep
-pub mod MonthLength
 pub mod Months
 pub mod Terms
 pub mod Held
@@ -15,5 +8,4 @@ pub mod Numbers
 pub mod Runs
 pub mod Days
 pub mod Direct
-pub mod Edition
 pub mod Demand

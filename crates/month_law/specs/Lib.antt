@@ -2,5 +2,4 @@ pub mod Steps
 pub mod Count
 pub mod Calendar
 pub mod Lawful
-pub mod Edition
 pub mod Demand

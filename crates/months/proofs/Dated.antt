@@ -7,10 +7,10 @@ use Rattle.measure.specs.Units.{lastYear}
 use Rattle.measure.specs.Epoch.{shoushi}
 use Rattle.month_law.specs.Calendar.{Calendar}
 use Rattle.month_law.specs.Demand.{Date, Dated}
-use Rattle.month_law.specs.Edition.{calendar}
+use Rattle.edition.specs.Edition.{calendar}
 use Rattle.month_law.proofs.Days.{dateOf, dated, date-unique}
-use Rattle.month_law.proofs.Edition.{figures, shoushi-lawful}
-use Rattle.month_law.proofs.Demand.{demand}
+use Rattle.edition.proofs.Edition.{figures, shoushi-lawful}
+use Rattle.edition.proofs.Demand.{demand}
 use Rattle.months.specs.Month.{earliest, latest}
 
 abbrev c : Calendar

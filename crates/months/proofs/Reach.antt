@@ -9,12 +9,12 @@ use Rattle.measure.specs.Epoch.{shoushi, meanStart}
 use Rattle.moons.specs.Lunation.{lastLunation, mean}
 use Rattle.moons.proofs.Corrected.{correctionSize}
 use Rattle.month_law.specs.Calendar.{Calendar, monthOf, head, monthsIn}
-use Rattle.month_law.specs.Edition.{middleDay, calendar}
-use Rattle.month_law.proofs.MonthLength.{near}
+use Rattle.edition.specs.Edition.{middleDay, calendar}
+use Rattle.edition.proofs.MonthLength.{near}
 use Rattle.month_law.proofs.Rising.{rises-weakly, order-back}
 use Rattle.month_law.proofs.Months.{InMonth, first-rises, day-in-month, month-of, head-rises}
 use Rattle.month_law.proofs.Lists.{months-in-least}
-use Rattle.month_law.proofs.Edition.{figures, middle-day, shoushi-lawful}
+use Rattle.edition.proofs.Edition.{figures, middle-day, shoushi-lawful}
 use Rattle.months.specs.Month.{earliest, latest}
 use Rattle.months.specs.Span.{spanOf, LastBefore}
 use Rattle.months.specs.declared.Span.{Span}

@@ -6,7 +6,7 @@ use Rattle.measure.specs.Reply.{Reply, answer, noYear, refuseIf}
 use Rattle.measure.specs.Units.{lastYear}
 use Rattle.measure.specs.Epoch.{Epoch}
 use Rattle.month_law.specs.Calendar.{head}
-use Rattle.month_law.specs.Edition.{calendar}
+use Rattle.edition.specs.Edition.{calendar}
 
 -- the lunation that heads year n
 unfoldable pub headReply : Epoch → ℕ → Reply ℕ

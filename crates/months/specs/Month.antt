@@ -5,7 +5,7 @@ use Rattle.measure.specs.Choice.{if_then_else_, _<?_}
 use Rattle.measure.specs.Reply.{Reply, answer, refused, noDay, refuseIf}
 use Rattle.measure.specs.Epoch.{Epoch}
 use Rattle.month_law.specs.Calendar.{Calendar, lengthOf, monthOf, head, yearOf, leapAt, numberAt}
-use Rattle.month_law.specs.Edition.{calendar}
+use Rattle.edition.specs.Edition.{calendar}
 use Rattle.kinds.specs.Kind.{Kind, ordinary, leap, kindSaid}
 use Rattle.months.specs.declared.Month.{Month}
 use Rattle.months.specs.declared.Reply.{Reply as ReplyCase}

@@ -17,7 +17,7 @@ ghost use Rattle.measure.specs.Epoch.{shoushi};
 ghost use Rattle.moons.specs.Lunation.{lastLunation};
 ghost use Rattle.moons.specs.TrueMoon.{firstDay};
 ghost use Rattle.month_law.specs.Calendar.{monthOf, head};
-ghost use Rattle.month_law.specs.Edition.{middleDay, calendar};
+ghost use Rattle.edition.specs.Edition.{middleDay, calendar};
 ghost use Rattle.months.specs.Head.{headReply};
 ghost use Rattle.kinds.specs.Kind.{kindSaid, numberIn, markIn};
 ghost use Rattle.months.specs.Month.{earliest, latest, monthOfDay, dayReply, monthSaid, replySaid};

@@ -11,8 +11,8 @@ use Rattle.measure.specs.Epoch.{shoushi}
 use Rattle.measure.specs.declared.Answer.{Answer}
 use Rattle.moons.specs.Lunation.{lastLunation}
 use Rattle.month_law.specs.Calendar.{Calendar, head, monthsIn}
-use Rattle.month_law.specs.Edition.{calendar}
-use Rattle.month_law.proofs.Edition.{shoushi-lawful}
+use Rattle.edition.specs.Edition.{calendar}
+use Rattle.edition.proofs.Edition.{shoushi-lawful}
 use Rattle.year_rows.specs.Records.{recordsOf}
 use Rattle.lists.specs.Lists.{runOf, monthsInRun, listReply, runReply}
 use Rattle.months.proofs.Reach.{head-most}

@@ -21,7 +21,7 @@ use Rattle.measure.specs.Epoch.{shoushi}
 use Rattle.measure.specs.declared.Answer.{Answer}
 use Rattle.measure.proofs.Determined.{one-answer}
 use Rattle.month_law.specs.Calendar.{monthsIn}
-use Rattle.month_law.specs.Edition.{calendar}
+use Rattle.edition.specs.Edition.{calendar}
 use Rattle.year_rows.specs.Records.{recordsOf}
 use Rattle.lists.specs.Lists.{runOf, listReply, runReply}
 use Rattle.records.specs.declared.MonthRecord.{MonthRecord}

@@ -9,7 +9,7 @@ ghost use Rattle.measure.specs.Units.{lastYear};
 ghost use Rattle.measure.specs.Epoch.{shoushi};
 ghost use Rattle.moons.specs.Lunation.{lastLunation};
 ghost use Rattle.month_law.specs.Calendar.{head, monthsIn};
-ghost use Rattle.month_law.specs.Edition.{calendar};
+ghost use Rattle.edition.specs.Edition.{calendar};
 ghost use Rattle.year_rows.specs.Records.{recordOf, recordsOf};
 ghost use Rattle.lists.specs.Lists.{runOf, listReply, runReply};
 ghost use Rattle.records.specs.MonthRecords.{recordIn, inRecords, monthsFrom, writtenIn, over, rowAfter};

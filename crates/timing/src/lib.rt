@@ -7,7 +7,7 @@ ghost use Rattle.measure.specs.Epoch.{shoushi};
 ghost use Rattle.measure.specs.Reply.{answerSaid};
 ghost use Rattle.measure.specs.Row.{rowAfter};
 ghost use Rattle.moons.specs.TrueMoon.{trueReply};
-ghost use Rattle.month_law.specs.Edition.{calendar};
+ghost use Rattle.edition.specs.Edition.{calendar};
 ghost use Rattle.year_rows.specs.Records.{recordWidth};
 ghost use Rattle.lists.specs.Lists.{runOf, runReply};
 ghost use Rattle.timing.specs.Timed.{timed};

@@ -9,13 +9,13 @@ use Rattle.measure.specs.Units.{lastYear}
 use Rattle.measure.specs.Epoch.{shoushi}
 use Rattle.measure.proofs.Choice.{lt-or-ge, if-cases}
 use Rattle.month_law.specs.Calendar.{Calendar, nameOf, monthOf, head, yearOf, leapAt, numberAt}
-use Rattle.month_law.specs.Edition.{calendar}
+use Rattle.edition.specs.Edition.{calendar}
 use Rattle.month_law.proofs.Rising.{order-back}
 use Rattle.month_law.proofs.Months.{head-rises}
 use Rattle.month_law.proofs.Terms.{InList}
 use Rattle.month_law.proofs.Lists.{months-in-most}
 use Rattle.month_law.proofs.Runs.{year-listed}
-use Rattle.month_law.proofs.Edition.{figures, shoushi-lawful}
+use Rattle.edition.proofs.Edition.{figures, shoushi-lawful}
 use Rattle.kinds.specs.Kind.{Kind, ordinary, leap, numberIn, markIn}
 use Rattle.months.specs.Month.{MonthOfDay, earliest, latest, kindAt, placed, monthOfDay, dayReply}
 use Rattle.months.proofs.Reach.{month-held, month-most}

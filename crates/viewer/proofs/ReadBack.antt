@@ -14,10 +14,10 @@ use Rattle.measure.specs.Units.{lastYear}
 use Rattle.measure.specs.Epoch.{shoushi}
 use Rattle.measure.proofs.Choice.{lt-or-ge, if-cases}
 use Rattle.month_law.specs.Calendar.{Calendar, monthsIn, head, leapAt, leapMark}
-use Rattle.month_law.specs.Edition.{calendar}
+use Rattle.edition.specs.Edition.{calendar}
 use Rattle.month_law.proofs.Rising.{rises-weakly}
 use Rattle.month_law.proofs.Months.{first-rises}
-use Rattle.month_law.proofs.Edition.{figures, shoushi-lawful}
+use Rattle.edition.proofs.Edition.{figures, shoushi-lawful}
 use Rattle.kinds.specs.Kind.{Kind, ordinary, leap, numberIn, markIn}
 use Rattle.months.specs.Month.{MonthOfDay, dayReply}
 use Rattle.year_rows.specs.Records.{yearRoom, recordAt, recordsOf}

@@ -16,9 +16,9 @@ use Rattle.measure.specs.declared.Answer.{Answer}
 use Rattle.measure.specs.declared.Answer.the-variants.{Number, Refused}
 use Rattle.measure.proofs.Choice.{lt-or-ge}
 use Rattle.month_law.specs.Calendar.{Calendar, monthsIn}
-use Rattle.month_law.specs.Edition.{calendar}
+use Rattle.edition.specs.Edition.{calendar}
 use Rattle.month_law.proofs.Lists.{months-in-most}
-use Rattle.month_law.proofs.Edition.{shoushi-lawful}
+use Rattle.edition.proofs.Edition.{shoushi-lawful}
 use Rattle.year_rows.specs.Records.{recordWidth, yearRoom, recordsOf}
 use Rattle.lists.specs.Lists.{listReply}
 use Rattle.year_rows.proofs.RecordLaws.{length-records}

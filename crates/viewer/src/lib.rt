@@ -13,7 +13,7 @@ ghost use Rattle.measure.specs.Epoch.{shoushi};
 ghost use Rattle.measure.specs.Reply.{answer, refused};
 ghost use Rattle.measure.specs.Row.{rowAfter};
 ghost use Rattle.month_law.specs.Calendar.{monthsIn};
-ghost use Rattle.month_law.specs.Edition.{calendar};
+ghost use Rattle.edition.specs.Edition.{calendar};
 ghost use Rattle.months.specs.Month.{dayReply, monthSaid};
 ghost use Rattle.year_rows.specs.Records.{recordsOf};
 ghost use Rattle.lists.specs.Lists.{listReply};

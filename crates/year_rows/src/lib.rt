@@ -15,7 +15,7 @@ ghost use Rattle.measure.specs.Units.{lastYear};
 ghost use Rattle.measure.specs.Epoch.{shoushi};
 ghost use Rattle.moons.specs.Lunation.{lastLunation};
 ghost use Rattle.month_law.specs.Calendar.{head, monthsIn};
-ghost use Rattle.month_law.specs.Edition.{calendar};
+ghost use Rattle.edition.specs.Edition.{calendar};
 ghost use Rattle.months.specs.Span.{spanOf};
 ghost use Rattle.year_rows.specs.Records.{recordWidth, yearRoom, recordOf, recordsOf};
 

@@ -13,9 +13,9 @@ use Rattle.measure.specs.Epoch.{shoushi}
 use Rattle.moons.specs.TrueMoon.{firstDay}
 use Rattle.month_law.specs.Calendar.{head}
 use Rattle.month_law.specs.Demand.{Dated}
-use Rattle.month_law.specs.Edition.{calendar}
+use Rattle.edition.specs.Edition.{calendar}
 use Rattle.month_law.proofs.Lists.{months-in-most}
-use Rattle.month_law.proofs.Edition.{shoushi-lawful}
+use Rattle.edition.proofs.Edition.{shoushi-lawful}
 use Rattle.months.specs.Month.{MonthOfDay, dayReply, replySaid}
 use Rattle.months.specs.declared.Reply.{Reply}
 use Rattle.months.proofs.Reach.{place-most, first-most}

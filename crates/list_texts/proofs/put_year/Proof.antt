@@ -6,7 +6,7 @@ use denote.Ref.{now}
 use Rattle.measure.specs.Reply.{answer, answerSaid}
 use Rattle.measure.specs.Epoch.{shoushi}
 use Rattle.month_law.specs.Calendar.{monthsIn}
-use Rattle.month_law.specs.Edition.{calendar}
+use Rattle.edition.specs.Edition.{calendar}
 use Rattle.year_rows.specs.Records.{yearRoom, recordsOf}
 use Rattle.lists.specs.Lists.{listReply}
 use Rattle.list_texts.specs.ListText.{yearText}

@@ -9,7 +9,7 @@ use lib.ListN.{length}
 use Rattle.measure.specs.Reply.{Reply, answer, answerSaid}
 use Rattle.measure.specs.Row.{rowAfter}
 use Rattle.measure.specs.Epoch.{shoushi}
-use Rattle.month_law.specs.Edition.{calendar}
+use Rattle.edition.specs.Edition.{calendar}
 use Rattle.year_rows.specs.Records.{recordWidth}
 use Rattle.lists.specs.Lists.{runOf, runReply}
 use Rattle.list_texts.specs.ListText.{yearsText, mostRecords}

@@ -1,7 +1,7 @@
 -- `lists::list` meets its contract: a year's list is the run of that year. Assumes nothing.
 use borrow.Author.Needs.{needs}
 use Rattle.measure.specs.Epoch.{shoushi}
-use Rattle.month_law.specs.Edition.{calendar}
+use Rattle.edition.specs.Edition.{calendar}
 use Rattle.lists.proofs.Asked.{reply-of-one, run-of-one}
 use Rattle.lists.proofs.list.Statement.{statement}
 use Rattle.lists.proofs.list.Tie as tie

@@ -6,7 +6,7 @@ use borrow.Author.Needs.{needs}
 use denote.Ref.{now}
 use Rattle.measure.specs.Reply.{answer}
 use Rattle.measure.specs.Epoch.{shoushi}
-use Rattle.month_law.specs.Edition.{calendar}
+use Rattle.edition.specs.Edition.{calendar}
 use Rattle.year_rows.specs.Records.{recordWidth}
 use Rattle.lists.specs.Lists.{monthsInRun, runReply}
 use Rattle.lists.proofs.Asked.{Admitted, said-as, run-refused, run-admitted}

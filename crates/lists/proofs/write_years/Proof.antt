@@ -8,8 +8,8 @@ use denote.Ref.{now}
 use Rattle.measure.specs.Epoch.{shoushi}
 use Rattle.measure.specs.Row.{over}
 use Rattle.month_law.specs.Calendar.{Calendar}
-use Rattle.month_law.specs.Edition.{calendar}
-use Rattle.month_law.proofs.Edition.{shoushi-lawful}
+use Rattle.edition.specs.Edition.{calendar}
+use Rattle.edition.proofs.Edition.{shoushi-lawful}
 use Rattle.month_law.proofs.Lists.{months-in-most}
 use Rattle.year_rows.specs.Records.{recordWidth}
 use Rattle.lists.specs.Lists.{runOf, monthsInRun}

@@ -5,7 +5,7 @@ use native.Mathlib.Omega.{arith}
 use borrow.Author.Needs.{needs}
 use Rattle.measure.specs.Epoch.{shoushi}
 use Rattle.month_law.specs.Calendar.{monthOf, head}
-use Rattle.month_law.specs.Edition.{calendar}
+use Rattle.edition.specs.Edition.{calendar}
 use Rattle.months.specs.Span.{spanOf}
 use Rattle.months.proofs.Reach.{solstice-least, solstice-most}
 use Rattle.months.proofs.head_span.Statement.{statement}

@@ -4,7 +4,7 @@ use native.Mathlib.Omega.{arith}
 use borrow.Author.Needs.{needs}
 use Rattle.measure.specs.Units.{day, termStep}
 use Rattle.measure.specs.Epoch.{shoushi}
-use Rattle.month_law.proofs.Edition.{middle-day}
+use Rattle.edition.proofs.Edition.{middle-day}
 use Rattle.months.proofs.last_term.Statement.{statement}
 use Rattle.months.proofs.last_term.Tie as tie
 

@@ -3,7 +3,7 @@
 use mathlib.Core.Path.{_∙_, sym}
 use borrow.Author.Needs.{needs}
 use Rattle.measure.specs.Epoch.{shoushi}
-use Rattle.month_law.proofs.Edition.{middle-day}
+use Rattle.edition.proofs.Edition.{middle-day}
 use Rattle.months.proofs.middle_day.Statement.{statement}
 use Rattle.months.proofs.middle_day.Tie as tie
 

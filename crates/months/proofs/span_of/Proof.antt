@@ -8,7 +8,7 @@ use borrow.Author.Needs.{needs}
 use Rattle.measure.specs.Units.{day, month}
 use Rattle.measure.specs.Epoch.{shoushi, meanStart}
 use Rattle.moons.specs.TrueMoon.{firstDay}
-use Rattle.month_law.proofs.Edition.{figures}
+use Rattle.edition.proofs.Edition.{figures}
 use Rattle.months.specs.Month.{earliest}
 use Rattle.months.proofs.Reach.{MeanBefore, begun-before, over-after, span-is}
 use Rattle.months.proofs.span_of.Statement.{statement}

@@ -13,8 +13,8 @@ use Rattle.measure.specs.declared.Answer.the-variants.{Number, Refused}
 use Rattle.measure.proofs.Choice.{lt-or-ge}
 use Rattle.moons.specs.Lunation.{lastLunation}
 use Rattle.month_law.specs.Calendar.{Calendar, head}
-use Rattle.month_law.specs.Edition.{calendar}
-use Rattle.month_law.proofs.Edition.{figures}
+use Rattle.edition.specs.Edition.{calendar}
+use Rattle.edition.proofs.Edition.{figures}
 use Rattle.months.specs.Head.{headReply}
 use Rattle.records.proofs.head_of.Statement.{statement}
 use Rattle.records.proofs.head_of.Tie as tie

@@ -51,7 +51,7 @@ use denote.Signature.{plain}
 use Rattle.measure.specs.Epoch.{shoushi}
 use Rattle.moons.specs.Lunation.{lastLunation}
 use Rattle.month_law.specs.Calendar.{Calendar}
-use Rattle.month_law.specs.Edition.{calendar}
+use Rattle.edition.specs.Edition.{calendar}
 use Rattle.year_rows.specs.Records.{recordOf}
 use Rattle.records.specs.declared.MonthRecord.{MonthRecord}
 use Rattle.records.specs.MonthRecords.{recordIn, monthsFrom, over}

@@ -7,10 +7,10 @@ use borrow.Author.Needs.{needs}
 use Rattle.measure.specs.Epoch.{shoushi}
 use Rattle.moons.specs.Lunation.{lastLunation}
 use Rattle.month_law.specs.Calendar.{Calendar}
-use Rattle.month_law.specs.Edition.{calendar}
+use Rattle.edition.specs.Edition.{calendar}
 use Rattle.month_law.proofs.Months.{first-rises}
 use Rattle.month_law.proofs.Terms.{one-come}
-use Rattle.month_law.proofs.Edition.{shoushi-lawful}
+use Rattle.edition.proofs.Edition.{shoushi-lawful}
 use Rattle.kinds.specs.Kind.{Kind, numberIn, markIn, kindSaid}
 use Rattle.months.specs.Month.{latest}
 use Rattle.months.specs.Span.{LastBefore, kindBy}

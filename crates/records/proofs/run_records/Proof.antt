@@ -47,7 +47,7 @@ use Rattle.measure.specs.declared.Answer.{Answer}
 use Rattle.measure.proofs.Answer as E
 use Rattle.measure.proofs.Answer.Laws as E′
 use Rattle.month_law.specs.Calendar.{Calendar, head}
-use Rattle.month_law.specs.Edition.{calendar}
+use Rattle.edition.specs.Edition.{calendar}
 use Rattle.lists.specs.Lists.{runReply}
 use Rattle.records.specs.MonthRecords.{monthsFrom, over, writtenIn}
 use Rattle.records.specs.declared.MonthRecord.{MonthRecord}

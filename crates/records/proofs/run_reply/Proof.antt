@@ -6,8 +6,8 @@ use borrow.Author.Needs.{needs}
 use Rattle.measure.specs.Reply.{answer}
 use Rattle.measure.specs.Epoch.{shoushi}
 use Rattle.month_law.specs.Calendar.{Calendar, head}
-use Rattle.month_law.specs.Edition.{calendar}
-use Rattle.month_law.proofs.Edition.{shoushi-lawful}
+use Rattle.edition.specs.Edition.{calendar}
+use Rattle.edition.proofs.Edition.{shoushi-lawful}
 use Rattle.lists.specs.Lists.{runReply, monthsInRun}
 use Rattle.lists.proofs.Asked.{Admitted, said-as, run-refused, run-admitted}
 use Rattle.records.proofs.Structs.{run-ends}

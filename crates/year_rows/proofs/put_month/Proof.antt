@@ -6,8 +6,8 @@ use native.Mathlib.Omega.{arith}
 use borrow.Author.Needs.{needs}
 use Rattle.measure.specs.Epoch.{shoushi}
 use Rattle.month_law.specs.Calendar.{Calendar}
-use Rattle.month_law.specs.Edition.{calendar}
-use Rattle.month_law.proofs.Edition.{shoushi-lawful}
+use Rattle.edition.specs.Edition.{calendar}
+use Rattle.edition.proofs.Edition.{shoushi-lawful}
 use Rattle.kinds.specs.Kind.{Kind, kindSaid, numberIn, markIn}
 use Rattle.months.specs.Span.{spanOf, kindBy, LastBefore}
 use Rattle.year_rows.specs.Records.{recordOf}

@@ -6,7 +6,7 @@ use native.Mathlib.Omega.{arith}
 use borrow.Author.Needs.{needs}
 use Rattle.measure.specs.Epoch.{shoushi}
 use Rattle.moons.specs.TrueMoon.{firstDay}
-use Rattle.month_law.specs.Edition.{calendar}
+use Rattle.edition.specs.Edition.{calendar}
 use Rattle.months.proofs.Spans.{next-is}
 use Rattle.year_rows.proofs.span_after.Statement.{statement}
 use Rattle.year_rows.proofs.span_after.Tie as tie

@@ -11,8 +11,8 @@ use Rattle.measure.specs.Units.{lastYear}
 use Rattle.measure.specs.Epoch.{shoushi}
 use Rattle.moons.specs.Lunation.{lastLunation}
 use Rattle.month_law.specs.Calendar.{Calendar, head}
-use Rattle.month_law.specs.Edition.{calendar}
-use Rattle.month_law.proofs.Edition.{shoushi-lawful}
+use Rattle.edition.specs.Edition.{calendar}
+use Rattle.edition.proofs.Edition.{shoushi-lawful}
 use Rattle.year_rows.specs.Records.{recordWidth, yearRoom}
 use Rattle.months.specs.declared.Span.{Span}
 use Rattle.months.proofs.Spans.{lunation-is, over-by, not-over}

@@ -10,8 +10,8 @@ use Rattle.signed.specs.Signed.{Signed, aheadBy, behindBy}
 use Rattle.inequality.specs.Law.{lawMoon, taken, law}
 use Rattle.inequality.specs.Lunar.{middle, end, limits, lunarMagnitude, lunar, anomalyAdvance}
 use Rattle.inequality.proofs.LawStep.{Steady}
-use Rattle.month_law.proofs.Signed.{gap}
-use Rattle.month_law.proofs.Gentle.{Gentle, glue, up-to, before, backwards, later, opposite, law-gentle, around}
+use Rattle.edition.proofs.Signed.{gap}
+use Rattle.edition.proofs.Gentle.{Gentle, glue, up-to, before, backwards, later, opposite, law-gentle, around}
 
 -- the law, whose rate is for a limit
 abbrev limitRate : ℕ

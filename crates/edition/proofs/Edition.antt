@@ -16,11 +16,11 @@ use Rattle.seasons.specs.Terms.{term}
 use Rattle.moons.specs.Lunation.{mean}
 use Rattle.moons.specs.TrueMoon.{corrected, correction, correctionOf, moved, trueMoon, firstDay}
 use Rattle.moons.proofs.Corrected.{correctionSize}
 use Rattle.month_law.specs.Steps.{seek}
 use Rattle.month_law.specs.Calendar.{monthOf, head}
 use Rattle.month_law.specs.Lawful.{Lawful}
-use Rattle.month_law.specs.Edition.{middleDay, calendar}
-use Rattle.month_law.proofs.MonthLength.{lunation-length}
+use Rattle.edition.specs.Edition.{middleDay, calendar}
+use Rattle.edition.proofs.MonthLength.{lunation-length}
 
 -- the days that the Shoushi's lists begin and end with, computed
 pub record Figures : Type 0 where

@@ -17,10 +17,10 @@ use Rattle.inequality.proofs.MotionRows.{leastMotion, motionStep}
 use Rattle.inequality.proofs.Rows.{motion-least}
 use Rattle.moons.specs.TrueMoon.{corrected, correction}
 use Rattle.moons.proofs.Quotient.{quotient, quotient-above, quotient-below, quotient-least, corrected-is}
-use Rattle.month_law.proofs.Signed.{gap, gap-sym, gap-minus}
-use Rattle.month_law.proofs.SolarStep.{mostSolarAdvance, solarStepBound, solar-step}
-use Rattle.month_law.proofs.LunarStep.{lunarStepBound, lunar-step}
-use Rattle.month_law.proofs.MotionStep.{motion-step}
+use Rattle.edition.proofs.Signed.{gap, gap-sym, gap-minus}
+use Rattle.edition.proofs.SolarStep.{mostSolarAdvance, solarStepBound, solar-step}
+use Rattle.edition.proofs.LunarStep.{lunarStepBound, lunar-step}
+use Rattle.edition.proofs.MotionStep.{motion-step}
 
 -- how far solar less lunar moves
 abbrev differenceStep : ℕ

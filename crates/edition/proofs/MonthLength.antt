@@ -15,9 +15,9 @@ use Rattle.moons.specs.Lunation.{mean}
 use Rattle.moons.specs.TrueMoon.{correction, correctionOf, moved, trueMoon, firstDay}
 use Rattle.moons.proofs.Times.{solar-time-lt, anomaly-lt, mean-least}
 use Rattle.moons.proofs.Corrected.{correctionSize, correction-size}
-use Rattle.month_law.proofs.Signed.{gap}
-use Rattle.month_law.proofs.SolarStep.{mostSolarAdvance}
-use Rattle.month_law.proofs.CorrectionStep.{correction-step}
+use Rattle.edition.proofs.Signed.{gap}
+use Rattle.edition.proofs.SolarStep.{mostSolarAdvance}
+use Rattle.edition.proofs.CorrectionStep.{correction-step}
 
 -- from one day to another it is 29 days or 30
 pub record MonthLength (first next : ℕ) : Type 0 where

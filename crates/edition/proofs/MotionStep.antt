@@ -13,7 +13,7 @@ use Rattle.inequality.specs.Lunar.{end, limits, anomalyAdvance}
 use Rattle.inequality.specs.Motion.{wholeLimit, motionInRow, rows, rowOf, motion}
 use Rattle.inequality.proofs.MotionRows.{rowOn, fewerRows, moreRows, motionStep, Near, near-fewer, near-more}
 use Rattle.inequality.proofs.Rows.{row-lt}
-use Rattle.month_law.proofs.Signed.{gap}
+use Rattle.edition.proofs.Signed.{gap}
 
 -- the rows
 row-quick : (a : ℕ) → a < anomalisticHalf → rowOf a ≡ wholeLimit a

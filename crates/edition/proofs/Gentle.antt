@@ -15,7 +15,7 @@ use Rattle.measure.proofs.Choice.{lt-or-ge, passes-or-fails}
 use Rattle.signed.specs.Signed.{Signed, aheadBy, behindBy}
 use Rattle.inequality.specs.Law.{Law, law}
 use Rattle.inequality.proofs.LawStep.{Steady, law-rises, law-falls}
-use Rattle.month_law.proofs.Signed.{gap, gap-sym, gap-triangle, gap-behind}
+use Rattle.edition.proofs.Signed.{gap, gap-sym, gap-triangle, gap-behind}
 
 -- f from lo to hi
 pub record Gentle (f : ℕ → Signed) (rate slack lo hi : ℕ) : Type 0 where

@@ -10,8 +10,8 @@ use Rattle.signed.specs.Signed.{Signed, aheadBy, behindBy}
 use Rattle.inequality.specs.Law.{lawA, lawB, taken, law}
 use Rattle.inequality.specs.Solar.{fastLimit, slowLimit, fastAt, slowAt, solar}
 use Rattle.inequality.proofs.LawStep.{Steady}
-use Rattle.month_law.proofs.Signed.{gap}
-use Rattle.month_law.proofs.Gentle.{Gentle, weaken, glue, up-to, before, backwards, later, opposite, law-gentle, around}
+use Rattle.edition.proofs.Signed.{gap}
+use Rattle.edition.proofs.Gentle.{Gentle, weaken, glue, up-to, before, backwards, later, opposite, law-gentle, around}
 
 -- the two laws, at the rate of the faster one
 abbrev solarRate : ℕ
