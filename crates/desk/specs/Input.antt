@@ -1,9 +1,10 @@
--- The desk's input, which comes in blocks: what is kept of a line until it ends. What is read and written cannot be said, so each
+-- The desk's input: what is kept of a line until it ends, and what the arguments ask. What is read and written cannot be said, so each
 -- turn is held to what it does with the block that it has.
 -- Assumes nothing.
 use mathlib.Core.Path.{_≡_}
 use mathlib.Core.List.{List, [], _∷_, _++_}
-use Prim.Native.Nat.{ℕ, _≤_, _<_}
+use Prim.Native.Nat.{ℕ, _+_, _≤_, _<_}
+use lib.IntN.{ℤ, pos, negsuc}
 use lib.ListN.{length, take}
 use Rattle.measure.specs.Choice.{if_then_else_, _=?_}
 use Rattle.measure.specs.Epoch.{shoushi}
@@ -12,6 +13,8 @@ use Rattle.questions.specs.Question.{replyTo}
 use Rattle.replies.specs.ReplyText.{replyText}
 use Rattle.desk.specs.declared.input.Turn.{Turn}
 use Rattle.desk.specs.declared.input.Turn.the-variants.{Begun, Ended, CutShort}
+use Rattle.desk.specs.declared.input.Asked.{Asked}
+use Rattle.desk.specs.declared.input.Asked.the-variants.{Line, Nothing}
 
 -- one byte more of a line: its end begins the next, and where there is no room the byte is dropped
 unfoldable pub withByte : ℕ → List ℕ → ℕ → List ℕ
@@ -33,3 +36,13 @@ abbrev pub Left : Turn → List ℕ → ℕ → List ℕ → List ℕ → Type 0
 Left (Begun n) row room line block = (0 < length block) × (n ≤ room) × (take n row ≡ keptAfter room line block)
 Left Ended row room line block = length block ≡ 0
 Left CutShort row room line block = 0 < length block
+
+-- how many bytes a line has with an argument after its first, where reading it gave this error: 0 is none, else the line counts as full
+abbrev pub withArgument : ℤ → ℕ → ℕ → ℕ → ℕ
+withArgument (pos e) from got room = if e =? 0 then from + got else room
+withArgument (negsuc e) from got room = room
+
+-- what so many arguments ask, the program's own name among them: nothing exactly where there is no other
+abbrev pub Told : Asked → ℕ → ℕ → Type 0
+Told (Line n) count room = (1 < count) × (n ≤ room)
+Told Nothing count room = count ≤ 1

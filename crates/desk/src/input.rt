@@ -1,4 +1,4 @@
-// The lines: from the arguments, or from standard input by blocks. Each is answered as it ends.
+// The lines: the arguments as one, or those of standard input, which comes by blocks. Each is answered as it ends.
 use day_lines::LINE_END;
 use libc::STDERR_FILENO;
 use libc::STDIN_FILENO;
@@ -6,14 +6,14 @@ use libc::STDOUT_FILENO;
 use measure::Answer;
 ghost use mathlib.Core.Path.{_≡_};
 ghost use mathlib.Core.List.{[], _∷_, _++_};
-ghost use Prim.Native.Nat.{_≤_, _<_};
+ghost use Prim.Native.Nat.{_+_, _≤_, _<_};
 ghost use lib.ListN.{length, take};
 ghost use Rattle.measure.specs.Choice.{if_then_else_, _<?_};
 ghost use Rattle.measure.specs.Epoch.{shoushi};
 ghost use Rattle.questions.specs.Question.{replyTo};
 ghost use Rattle.list_texts.specs.ListText.{yearsRoom};
 ghost use Rattle.replies.specs.ReplyText.{replyText};
-ghost use Rattle.desk.specs.Input.{lastText, Left};
+ghost use Rattle.desk.specs.Input.{lastText, Left, withArgument, Told};
 
 // How a turn ends: with so many bytes kept of a line that was begun, at the input's end, or by a failed write.
 enum Turn {
@@ -119,7 +119,7 @@ fn fill(block: &mut [u8]) -> usize
 }
 
 // Nothing says that the input ends, so the turns are counted down from a number that no run uses up.
-pub fn answer_lines(line: &mut [u8], buf: &mut [u8])
+fn answer_lines(line: &mut [u8], buf: &mut [u8])
     requires { ⌜ yearsRoom ≤ length (now buf) ⌝ }
 {
     let mut block = io::large_buffer();
@@ -147,37 +147,55 @@ fn blank_before(line: &mut [u8], n: usize, i: usize) -> usize
     n
 }
 
-// Argument i after the line's first n bytes; how many the line then has. Where it has no room for the
-// argument it is full, and is refused.
-fn join(line: &mut [u8], n: usize, i: usize) -> usize
-    requires { ⌜ n ≤ length (now line) ⌝ }
+// How many bytes a line has with an argument after its first. Where the argument did not fit the line is full, and is refused.
+fn with_argument(error: i32, from: usize, got: usize, room: usize) -> usize
+    requires { ⌜ from + got ≤ room ⌝ }
+    ensures { λ r. ⌜ r ≡ withArgument error from got room ⌝ }
+    ensures { λ r. ⌜ r ≤ room ⌝ }
+{
+    if error == 0 { from + got } else { room }
+}
+
+// Argument i, of so many, after the line's first n bytes; how many the line then has.
+fn join(line: &mut [u8], n: usize, i: usize, count: usize) -> usize
+    requires { ⌜ (n ≤ length (now line)) × (i < count) ⌝ }
     ensures { λ r. ⌜ r ≤ length (now (line .entry)) ⌝ }
 {
     let from = blank_before(line, n, i);
     let got = os::arg(i, &mut line[from..]);
-    if os::errno() != 0 {
-        return line.len();
-    }
-    from + got
+    let error = os::errno();
+    with_argument(error, from, got, line.len())
 }
 
-// The arguments as one line, and how many bytes it has.
-fn join_arguments(line: &mut [u8]) -> usize
-    ensures { λ r. ⌜ r ≤ length (now (line .entry)) ⌝ }
+// What the arguments ask: a line of so many bytes, or nothing where there are none.
+enum Asked {
+    Line(usize),
+    Nothing,
+}
+
+// The arguments as one line. The first is the program's own name.
+fn join_arguments(line: &mut [u8], count: usize) -> Asked
+    ensures { λ r. ⌜ Told r count (length (now (line .entry))) ⌝ }
 {
-    let count = os::arg_count();
     let mut n: usize = 0;
     let mut i: usize = 1;
     while i < count {
-        n = join(line, n, i);
+        n = join(line, n, i, count);
         i += 1;
     }
-    n
+    if i == 1 {
+        return Asked::Nothing;
+    }
+    Asked::Line(n)
 }
 
-pub fn answer_arguments(line: &mut [u8], buf: &mut [u8])
+pub fn answer(line: &mut [u8], buf: &mut [u8])
     requires { ⌜ yearsRoom ≤ length (now buf) ⌝ }
 {
-    let n = join_arguments(line);
-    answer_line(&line[0..n], buf);
+    match join_arguments(line, os::arg_count()) {
+        Asked::Line(n) => {
+            answer_line(&line[0..n], buf);
+        }
+        Asked::Nothing => answer_lines(line, buf),
+    }
 }

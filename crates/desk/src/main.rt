@@ -23,9 +23,5 @@ fn reply_buffer() -> [u8; YEARS_ROOM]
 fn main() {
     let mut line = line_buffer();
     let mut buf = reply_buffer();
-    if os::arg_count() > 1 {
-        input::answer_arguments(&mut line, &mut buf);
-    } else {
-        input::answer_lines(&mut line, &mut buf);
-    }
+    input::answer(&mut line, &mut buf);
 }
