@@ -18,7 +18,7 @@ use Rattle.day_lines.specs.DayLine.{lineEnd, lineLength, dayAsked}
 use Rattle.reply_lines.specs.ReplyLine.{lineOf}
 use Rattle.lines.specs.Line.{lineReply, lastLine, outputFrom, output}
 use Rattle.lines.proofs.LineLaws.{bad-line}
-use Rattle.blocks.specs.Block.{enough}
+use Rattle.blocks.specs.Block.{enough, Unfinished}
 
 long : (e : Epoch) (line : List ℕ) → 5 < length line → lineReply e line ≡ refused badLine
 unfolding dayAsked
@@ -29,10 +29,6 @@ take-of-take zero a b = refl
 take-of-take (suc n) [] b = refl
 take-of-take (suc n) (x ∷ a) b = ap (λ (l : List ℕ). x ∷ l) (take-of-take n a b)
 
--- no line ends in these bytes
-abbrev pub Unfinished : List ℕ → Type 0
-Unfinished begun = lineLength begun ≡ length begun
-
 goes-on : (b : ℕ) (bs : List ℕ) → Unfinished (b ∷ bs) → ((b =? lineEnd) ≡ false) × Unfinished bs
 unfolding lineLength
 goes-on b bs h = by (b =? lineEnd) h
@@ -41,7 +37,8 @@ goes-on b bs h = by (b =? lineEnd) h
     by true f = absurd (omega arith)
     by false f = (refl, omega arith)
 
-unfinished-take : (n : ℕ) (begun : List ℕ) → Unfinished begun → Unfinished (take n begun)
+-- nor in the first of them
+pub unfinished-take : (n : ℕ) (begun : List ℕ) → Unfinished begun → Unfinished (take n begun)
 unfolding lineLength
 unfinished-take zero begun h = refl
 unfinished-take (suc n) [] h = refl

@@ -12,11 +12,15 @@ use Rattle.lines.specs.Line.{output}
 abbrev pub enough : ℕ
 enough = 6
 
+-- no line ends in these bytes
+abbrev pub Unfinished : List ℕ → Type 0
+Unfinished begun = lineLength begun ≡ length begun
+
 -- n bytes of a block are whole lines, and no line ends after them
 pub record Whole (block : List ℕ) (n : ℕ) : Type 0 where
   pub within : n ≤ length block
   pub ended : 0 < n → getD block (n - 1) 0 ≡ lineEnd
-  pub unfinished : lineLength (drop n block) ≡ length (drop n block)
+  pub unfinished : Unfinished (drop n block)
 
 -- whatever follows, what is written and then the replies to what is kept are the replies to the block
 abbrev pub Answered : List ℕ → List ℕ → List ℕ → Type 0

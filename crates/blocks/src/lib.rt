@@ -6,7 +6,7 @@ ghost use Prim.Native.Nat.{_+_, _*_, _≤_, min};
 ghost use lib.ListN.{length, take, drop};
 ghost use Rattle.measure.specs.Epoch.{shoushi};
 ghost use Rattle.lines.specs.Line.{output, replyRoom};
-ghost use Rattle.blocks.specs.Block.{enough, Whole, Answered};
+ghost use Rattle.blocks.specs.Block.{enough, Unfinished, Whole, Answered};
 
 // A line of six bytes is refused, whatever follows.
 const ENOUGH: usize = 6;
@@ -22,6 +22,7 @@ pub fn answer_block(buf: &mut [u8], have: usize, out: &mut [u8]) -> Block
     requires { ⌜ (have ≤ length (now buf)) × (replyRoom * length (now buf) ≤ length (now out)) ⌝ }
     ensures { λ r. ⌜ (r .kept ≤ enough) × (r .written ≤ length (now (out .entry))) ⌝ }
     ensures { λ r. ⌜ Answered (take have (now (buf .entry))) (take (r .written) (now (out .exit))) (take (r .kept) (now (buf .exit))) ⌝ }
+    ensures { λ r. ⌜ Unfinished (take (r .kept) (now (buf .exit))) ⌝ }
 {
     let whole = whole_lines(&buf[..have]);
     let written = answer_lines(&buf[..whole], out);

@@ -8,8 +8,8 @@ ghost use mathlib.Core.Path.{_≡_};
 ghost use Prim.Native.Nat.{_*_, _≤_};
 ghost use lib.ListN.{length, take};
 ghost use Rattle.lines.specs.Line.{replyRoom};
-ghost use Rattle.blocks.specs.Block.{enough};
-ghost use Rattle.month_lines.specs.Input.{Told};
+ghost use Rattle.blocks.specs.Block.{enough, Unfinished};
+ghost use Rattle.month_lines.specs.Input.{Left, Told};
 
 // What was read: no more, so that the last line was answered in so many bytes; or a block, which was answered.
 enum Read {
@@ -17,10 +17,10 @@ enum Read {
     Part(Block),
 }
 
-// How many bytes of an unfinished line are kept at the buffer's start, and whether to go on.
-struct Turn {
-    kept: usize,
-    more: bool,
+// How a turn ends: with so many bytes of an unfinished line at the buffer's start, or all is over.
+enum Turn {
+    Kept(usize),
+    Over,
 }
 
 const BUFFER: usize = 65_536;
@@ -64,43 +64,40 @@ fn answer_read(buf: &mut [u8], kept: usize, have: usize, out: &mut [u8]) -> Read
     Read::Part(blocks::answer_block(buf, have, out))
 }
 
-// One turn: reads, and writes the replies to what was read.
+// One turn: reads, and writes the replies to what was read. A failed write ends it.
 fn one_turn(buf: &mut [u8], out: &mut [u8], kept: usize) -> Turn
     requires { ⌜ (kept ≤ enough) × (enough ≤ length (now buf)) × (replyRoom * length (now buf) ≤ length (now out)) ⌝ }
-    ensures { λ r. ⌜ r .kept ≤ enough ⌝ }
+    requires { ⌜ Unfinished (take kept (now buf)) ⌝ }
+    ensures { λ r. ⌜ Left r (now (buf .exit)) ⌝ }
 {
     let have = fill(buf, kept);
     match answer_read(buf, kept, have, out) {
         Read::Last(n) => {
             write_out(&out[..n]);
-            Turn {
-                kept: 0,
-                more: false,
-            }
+            Turn::Over
         }
         Read::Part(block) => {
             let n = block.written;
-            let more = write_out(&out[..n]);
-            Turn {
-                kept: block.kept,
-                more,
+            if write_out(&out[..n]) {
+                Turn::Kept(block.kept)
+            } else {
+                Turn::Over
             }
         }
     }
 }
 
-// Nothing says that the input ends, so the turns are counted down from a number that no run uses up. A failed write ends it.
+// Nothing says that the input ends, so the turns are counted down from a number that no run uses up.
 fn main() {
     let mut buf = io::large_buffer();
     let mut out = reply_buffer();
     let mut kept: usize = 0;
     let mut turns = u64::MAX;
     while turns > 0 {
-        let turn = one_turn(&mut buf, &mut out, kept);
-        kept = turn.kept;
-        if !turn.more {
+        let Turn::Kept(n) = one_turn(&mut buf, &mut out, kept) else {
             return;
-        }
+        };
+        kept = n;
         turns -= 1;
     }
 }

@@ -6,7 +6,7 @@ use borrow.Author.Needs.{needs}
 use denote.Ref.{now}
 use lib.ListN.{length}
 use lib.Seq.{length-take-le}
-use Rattle.blocks.proofs.Kept.{answered}
+use Rattle.blocks.proofs.Kept.{unfinished, answered}
 use Rattle.blocks.proofs.answer_block.Statement.{statement}
 use Rattle.blocks.proofs.answer_block.Tie as tie
 
@@ -64,11 +64,18 @@ returns c =
     let least = c .before .before .before .before in
     let lines = least .before .before .before in
     let cut = lines .before .before .before in
-    let a = cut .before .before .before .before .args in (
+    let a = cut .before .before .before .before .args in
+    let buf = now (a .buf) in
+    let after = c .before .before .shift .last .0 in
+    let whole = cut .whole-lines .result in
+    let kept = least .least .result in
+    let moved = c .before .before .shift .ensures in (
       (omega arith, lines .answer-lines .ensures .0),
-      answered (now (a .buf)) (c .before .before .shift .last .0) (lines .answer-lines .last .1 .0) (a .have) (cut .whole-lines .result)
-          (lines .answer-lines .result) (least .least .result) (omega arith) (cut .whole-lines .ensures) (lines .answer-lines .ensures .1)
-          (least .least .ensures) (c .before .before .shift .ensures),
+      (
+        answered buf after (a .have) whole kept (omega arith) (cut .whole-lines .ensures) (least .least .ensures) moved
+            (lines .answer-lines .last .1 .0) (lines .answer-lines .result) (lines .answer-lines .ensures .1),
+        unfinished buf after (a .have) whole kept (omega arith) (cut .whole-lines .ensures) (least .least .ensures) moved,
+      ),
     )
 
 pub answer-block-spec : {M : Type 1} → statement M

@@ -54,7 +54,8 @@ returns-2 c =
       omega (arith, length-take-le (a .have) (now (a .buf)) (omega arith)),
       omega arith,
       omega arith,
-      told .answer-block .ensures .1,
+      told .answer-block .ensures .1 .0,
+      told .answer-block .ensures .1 .1,
     )
 
 pub answer-read-spec : {M : Type 1} → statement M

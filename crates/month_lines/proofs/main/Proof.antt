@@ -1,14 +1,17 @@
 -- `month_lines::main` meets its contract. Assumes nothing.
-use mathlib.Core.Path.{_≡_, sym}
+use mathlib.Core.Path.{_≡_, refl, sym}
 use Prim.Native.Nat.{_≤_}
 use native.Mathlib.Omega.{arith}
-use lib.ListN.{length}
-use Rattle.blocks.specs.Block.{enough}
+use borrow.Author.Needs.{needs}
+use lib.ListN.{length, take}
+use Rattle.day_lines.specs.DayLine.{lineLength}
+use Rattle.blocks.specs.Block.{enough, Unfinished}
 use Rattle.month_lines.proofs.main.Statement.{statement}
 use Rattle.month_lines.proofs.main.Tie as tie
 
 abbrev Inv-loop : tie.InvT-loop
-Inv-loop buf₀ out₀ kept₀ turns₀ buf out kept turns = (length buf ≡ 65_536) × (length out ≡ 196_608) × (kept ≤ enough)
+Inv-loop buf₀ out₀ kept₀ turns₀ buf out kept turns =
+    (length buf ≡ 65_536) × (length out ≡ 196_608) × (kept ≤ enough) × Unfinished (take kept buf)
 
 abbrev μ-loop : tie.MeasureT-loop
 μ-loop buf₀ out₀ kept₀ turns₀ buf out kept turns = turns
@@ -20,7 +23,8 @@ reply-buffer-requires : tie.Need-reply-buffer-requires Inv-loop μ-loop
 reply-buffer-requires c κs = tt
 
 loop-holds : tie.Need-loop-holds Inv-loop μ-loop
-loop-holds c = (sym (c .before .large-buffer .ensures), sym (c .reply-buffer .ensures), omega arith)
+unfolding lineLength
+loop-holds c = (sym (c .before .large-buffer .ensures), sym (c .reply-buffer .ensures), omega arith, refl)
 
 slice-aggregate-one-turn : tie.Need-slice-aggregate-one-turn Inv-loop μ-loop
 slice-aggregate-one-turn c = omega arith
@@ -29,7 +33,13 @@ slice-aggregate-one-turn-2 : tie.Need-slice-aggregate-one-turn-2 Inv-loop μ-loo
 slice-aggregate-one-turn-2 c = omega arith
 
 one-turn-requires : tie.Need-one-turn-requires Inv-loop μ-loop
-one-turn-requires c κs = omega arith
+one-turn-requires c κs = (omega arith, c .before .before .before .loop .inv .3)
+
+enum-known-n : tie.Need-enum-known-n Inv-loop μ-loop
+enum-known-n c = search needs
+
+enum-told : tie.Need-enum-told Inv-loop μ-loop
+enum-told c = search needs
 
 returns : tie.Need-returns Inv-loop μ-loop
 returns c = tt
@@ -41,7 +51,10 @@ loop-less : tie.Need-loop-less Inv-loop μ-loop
 loop-less c = omega arith
 
 loop-again : tie.Need-loop-again Inv-loop μ-loop
-loop-again c = omega arith
+loop-again c =
+    let turn = c .before .before .before .before .before in
+    let left = rw (c .before .n .given .1) at (turn .one-turn .ensures) in
+    (omega arith, omega arith, left .0, left .1)
 
 returns-2 : tie.Need-returns-2 Inv-loop μ-loop
 returns-2 c = tt
@@ -58,6 +71,8 @@ main-spec =
     slice-aggregate-one-turn
     slice-aggregate-one-turn-2
     one-turn-requires
+    enum-known-n
+    enum-told
     returns
     sub-turns
     loop-less

@@ -65,10 +65,22 @@ same-length-3 c = search needs
 same-length-4 : tie.Need-same-length-4
 same-length-4 c = search needs
 
+-- what is kept is what the block left
 returns-2 : tie.Need-returns-2
 returns-2 c =
-    let told = rw (c .before .before .before .block .given .1) at (c .before .before .before .before .before .before .before .before .before .answer-read .ensures) in
-    told .1
+    let part = c .before .before .before .before in
+    let read = part .before .before .before .before .before .before in
+    let told = rw (part .block .given .1) at (read .answer-read .ensures) in
+    (told .1, told .4)
+
+same-length-5 : tie.Need-same-length-5
+same-length-5 c = search needs
+
+same-length-6 : tie.Need-same-length-6
+same-length-6 c = search needs
+
+returns-3 : tie.Need-returns-3
+returns-3 c = search needs
 
 pub one-turn-spec : {M : Type 1} → statement M
 one-turn-spec =
@@ -89,4 +101,7 @@ one-turn-spec =
     returns
     same-length-3
     same-length-4
-    returns-2)
+    returns-2
+    same-length-5
+    same-length-6
+    returns-3)
