@@ -1,4 +1,5 @@
 -- `term_lists::terms` meets its contract. Assumes nothing.
+use native.Mathlib.Omega.{arith}
 use borrow.Author.Needs.{needs}
 use borrow.Author.Tests.{lt-ltb, le-ltb}
 use Rattle.seasons.specs.Terms.{termsReply}
@@ -17,7 +18,7 @@ returns-2 c = (
 )
 
 write-terms-requires : tie.Need-write-terms-requires
-write-terms-requires c κs = search needs
+write-terms-requires c κs = omega arith
 
 same-length : tie.Need-same-length
 same-length c = search needs

@@ -19,7 +19,7 @@ returns c =
     (simp (lt-ltb _ _ short), simp (lt-ltb _ _ short))
 
 fill-requires : tie.Need-fill-requires
-fill-requires c κs = search needs
+fill-requires c κs = omega arith
 
 same-length : tie.Need-same-length
 same-length c = search needs

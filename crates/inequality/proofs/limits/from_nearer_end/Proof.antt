@@ -13,7 +13,7 @@ mul-result : tie.Need-mul-result
 mul-result c = search needs
 
 sub-result : tie.Need-sub-result
-sub-result c = search needs
+sub-result c = omega arith
 
 returns : tie.Need-returns
 unfolding fromNearerEnd
