@@ -6,7 +6,7 @@ use mathlib.Core.List.{List, [], _∷_, _++_}
 use Prim.Native.Nat.{ℕ, _+_, _≤_, _<_}
 use lib.IntN.{ℤ, pos, negsuc}
 use lib.ListN.{length, take}
-use Rattle.measure.specs.Choice.{if_then_else_, _=?_}
+use Rattle.measure.specs.Choice.{if_then_else_, _<?_, _=?_}
 use Rattle.measure.specs.Epoch.{shoushi}
 use Rattle.day_lines.specs.DayLine.{lineEnd}
 use Rattle.questions.specs.Question.{replyTo}
@@ -36,6 +36,14 @@ abbrev pub Left : Turn → List ℕ → ℕ → List ℕ → List ℕ → Type 0
 Left (Begun n) row room line block = (0 < length block) × (n ≤ room) × (take n row ≡ keptAfter room line block)
 Left Ended row room line block = length block ≡ 0
 Left CutShort row room line block = 0 < length block
+
+-- a line before argument i: a blank stands before each but the first
+abbrev pub withBlank : ℕ → ℕ → List ℕ → List ℕ
+withBlank room i line = if 1 <? i then take room (line ++ (0x20 ∷ [])) else line
+
+-- a line begins with these bytes
+abbrev pub Begins : List ℕ → List ℕ → Type 0
+Begins line first = take (length first) line ≡ first
 
 -- how many bytes a line has with an argument after its first, where reading it gave this error: 0 is none, else the line counts as full
 abbrev pub withArgument : ℤ → ℕ → ℕ → ℕ → ℕ

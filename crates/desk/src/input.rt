@@ -8,12 +8,11 @@ ghost use mathlib.Core.Path.{_≡_};
 ghost use mathlib.Core.List.{[], _∷_, _++_};
 ghost use Prim.Native.Nat.{_+_, _≤_, _<_};
 ghost use lib.ListN.{length, take};
-ghost use Rattle.measure.specs.Choice.{if_then_else_, _<?_};
 ghost use Rattle.measure.specs.Epoch.{shoushi};
 ghost use Rattle.questions.specs.Question.{replyTo};
 ghost use Rattle.list_texts.specs.ListText.{yearsRoom};
 ghost use Rattle.replies.specs.ReplyText.{replyText};
-ghost use Rattle.desk.specs.Input.{lastText, Left, withArgument, Told};
+ghost use Rattle.desk.specs.Input.{lastText, Left, withBlank, withArgument, Begins, Told};
 
 // How a turn ends: with so many bytes kept of a line that was begun, at the input's end, or by a failed write.
 enum Turn {
@@ -139,7 +138,7 @@ fn answer_lines(line: &mut [u8], buf: &mut [u8])
 fn blank_before(line: &mut [u8], n: usize, i: usize) -> usize
     requires { ⌜ n ≤ length (now line) ⌝ }
     ensures { λ r. ⌜ r ≤ length (now (line .entry)) ⌝ }
-    ensures { λ r. ⌜ take r (now (line .exit)) ≡ (if 1 <? i then take (length (now (line .entry))) (take n (now (line .entry)) ++ (32 ∷ [])) else take n (now (line .entry))) ⌝ }
+    ensures { λ r. ⌜ take r (now (line .exit)) ≡ withBlank (length (now (line .entry))) i (take n (now (line .entry))) ⌝ }
 {
     if i > 1 {
         return keep(line, n, b' ');
@@ -151,7 +150,7 @@ fn blank_before(line: &mut [u8], n: usize, i: usize) -> usize
 fn with_argument(error: i32, from: usize, got: usize, room: usize) -> usize
     requires { ⌜ from + got ≤ room ⌝ }
     ensures { λ r. ⌜ r ≡ withArgument error from got room ⌝ }
-    ensures { λ r. ⌜ r ≤ room ⌝ }
+    ensures { λ r. ⌜ (from ≤ r) × (r ≤ room) ⌝ }
 {
     if error == 0 { from + got } else { room }
 }
@@ -160,6 +159,7 @@ fn with_argument(error: i32, from: usize, got: usize, room: usize) -> usize
 fn join(line: &mut [u8], n: usize, i: usize, count: usize) -> usize
     requires { ⌜ (n ≤ length (now line)) × (i < count) ⌝ }
     ensures { λ r. ⌜ r ≤ length (now (line .entry)) ⌝ }
+    ensures { λ r. ⌜ Begins (take r (now (line .exit))) (withBlank (length (now (line .entry))) i (take n (now (line .entry)))) ⌝ }
 {
     let from = blank_before(line, n, i);
     let got = os::arg(i, &mut line[from..]);

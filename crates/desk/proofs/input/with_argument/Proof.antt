@@ -28,12 +28,12 @@ add-result c = search needs
 returns : tie.Need-returns
 returns c =
     let a = c .before .args in
-    (none (a .from) (a .got) (a .room) (a .error) (c .before .fits .error) (c .if1 .taken), omega arith)
+    (none (a .from) (a .got) (a .room) (a .error) (c .before .fits .error) (c .if1 .taken), (omega arith, omega arith))
 
 returns-2 : tie.Need-returns-2
 returns-2 c =
     let a = c .before .args in
-    (some (a .from) (a .got) (a .room) (a .error) (c .if1 .left), omega arith)
+    (some (a .from) (a .got) (a .room) (a .error) (c .if1 .left), (omega arith, omega arith))
 
 pub with-argument-spec : {M : Type 1} → statement M
 with-argument-spec = tie.close (tie.spec add-result returns returns-2)
