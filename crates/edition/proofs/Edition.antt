@@ -1,7 +1,7 @@
 -- The calendar of an epoch is lawful, where lunation 0 is the month of the first solstice and no correction takes a time below 0; so
 -- is that of the Shoushi.
 -- Assumes nothing.
-use mathlib.Core.Path.{_≡_, refl}
+use mathlib.Core.Path.{_≡_, refl, sym}
 use Prim.Native.Nat.{ℕ, suc, _+_, _*_, _≤_, _<_}
 use native.Mathlib.Omega.{arith}
 use Rattle.measure.specs.Units.{termStep}
@@ -16,23 +16,25 @@ use Rattle.seasons.specs.Terms.{term}
 use Rattle.moons.specs.Lunation.{mean}
 use Rattle.moons.specs.TrueMoon.{corrected, correction, correctionOf, moved, trueMoon, firstDay}
 use Rattle.moons.proofs.Corrected.{correctionSize}
-use Rattle.month_law.specs.Steps.{seek}
-use Rattle.month_law.specs.Calendar.{monthOf, head}
+use Rattle.month_law.specs.Calendar.{head}
 use Rattle.month_law.specs.Lawful.{Lawful}
+use Rattle.month_law.proofs.Months.{head-unique}
 use Rattle.edition.specs.Edition.{middleDay, calendar}
 use Rattle.edition.proofs.MonthLength.{lunation-length}
 
--- the days that the Shoushi's lists begin and end with, computed
+-- the days that the Shoushi's lists begin with and end before, computed
 pub record Figures : Type 0 where
   pub first-0 : calendar shoushi .first 0 ≡ 35
   pub first-1 : calendar shoushi .first 1 ≡ 64
   pub solstice-0 : calendar shoushi .mid 0 ≡ 55
-  pub head-1000 : head (calendar shoushi) 1_000 ≡ 12_368
   pub first-1000 : calendar shoushi .first 12_368 ≡ 365_269
+  pub next-1000 : calendar shoushi .first 12_369 ≡ 365_299
+  pub solstice-1000 : calendar shoushi .mid 12_000 ≡ 365_297
 
 pub figures : Figures
-unfolding firstDay trueMoon moved mean correctionOf correction corrected solar solarTime fastAt slowAt lunar anomaly lunarMagnitude motion motionInRow rowOf motionAt wholeLaw exact law taken middleDay term solstice head monthOf seek
-figures = record { first-0 = refl; first-1 = refl; solstice-0 = refl; head-1000 = refl; first-1000 = refl }
+unfolding firstDay trueMoon moved mean correctionOf correction corrected solar solarTime fastAt slowAt lunar anomaly lunarMagnitude motion motionInRow rowOf motionAt wholeLaw exact law taken middleDay term solstice
+figures =
+    record { first-0 = refl; first-1 = refl; solstice-0 = refl; first-1000 = refl; next-1000 = refl; solstice-1000 = refl }
 
 -- where an edition may open
 pub record Opens (e : Epoch) : Type 0 where
@@ -63,3 +65,10 @@ shoushi-opens = record { late = omega arith; opening = omega (arith, figures); o
 
 pub shoushi-lawful : Lawful (calendar shoushi)
 shoushi-lawful = lawful shoushi shoushi-opens
+
+-- the head after the last list
+pub head-1000 : head (calendar shoushi) 1_000 ≡ 12_368
+head-1000 =
+    sym
+    (head-unique (calendar shoushi) shoushi-lawful 1_000 12_368
+    (record { since = omega (arith, figures); until = omega (arith, figures) }))

@@ -14,7 +14,7 @@ use Rattle.edition.proofs.MonthLength.{near}
 use Rattle.month_law.proofs.Rising.{rises-weakly, order-back}
 use Rattle.month_law.proofs.Months.{InMonth, first-rises, day-in-month, month-of, head-rises}
 use Rattle.month_law.proofs.Lists.{months-in-least}
-use Rattle.edition.proofs.Edition.{figures, middle-day, shoushi-lawful}
+use Rattle.edition.proofs.Edition.{figures, middle-day, shoushi-lawful, head-1000}
 use Rattle.months.specs.Month.{earliest, latest}
 use Rattle.months.specs.Span.{spanOf, LastBefore}
 use Rattle.months.specs.declared.Span.{Span}
@@ -48,7 +48,7 @@ module _ (d : ℕ) (since : earliest ≤ d) (until : d ≤ latest) where
 
 -- the heads
 pub head-most : (n : ℕ) → n ≤ suc lastYear → head c n ≤ suc lastLunation
-head-most n h = omega (arith, figures, rises-weakly (head c) (head-rises c shoushi-lawful) n (suc lastYear) h)
+head-most n h = omega (arith, head-1000, rises-weakly (head c) (head-rises c shoushi-lawful) n (suc lastYear) h)
 
 pub list-most : (n : ℕ) → n ≤ lastYear → head c n + monthsIn c n ≤ suc lastLunation
 list-most n h = omega (arith, head-most (suc n) (omega arith), head-rises c shoushi-lawful n)

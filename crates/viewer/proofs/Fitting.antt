@@ -15,7 +15,7 @@ use Rattle.month_law.proofs.Months.{head-rises}
 use Rattle.month_law.proofs.Terms.{InList}
 use Rattle.month_law.proofs.Lists.{months-in-most}
 use Rattle.month_law.proofs.Runs.{year-listed}
-use Rattle.edition.proofs.Edition.{figures, shoushi-lawful}
+use Rattle.edition.proofs.Edition.{shoushi-lawful, head-1000}
 use Rattle.kinds.specs.Kind.{Kind, ordinary, leap, numberIn, markIn}
 use Rattle.months.specs.Month.{MonthOfDay, earliest, latest, kindAt, placed, monthOfDay, dayReply}
 use Rattle.months.proofs.Reach.{month-held, month-most}
@@ -51,7 +51,7 @@ module _ (d : ℕ) (since : earliest ≤ d) (until : d ≤ latest) where
 
   admitted : n < suc lastYear
   admitted =
-      order-back (head c) (head-rises c shoushi-lawful) n (suc lastYear) (omega (arith, figures, month-most d since until, listed))
+      order-back (head c) (head-rises c shoushi-lawful) n (suc lastYear) (omega (arith, head-1000, month-most d since until, listed))
 
   month-fits : Fits (monthOfDay c d)
   unfolding monthOfDay placed

@@ -14,7 +14,7 @@ use Rattle.measure.proofs.Choice.{lt-or-ge}
 use Rattle.moons.specs.Lunation.{lastLunation}
 use Rattle.month_law.specs.Calendar.{Calendar, head}
 use Rattle.edition.specs.Edition.{calendar}
-use Rattle.edition.proofs.Edition.{figures}
+use Rattle.edition.proofs.Edition.{head-1000}
 use Rattle.months.specs.Head.{headReply}
 use Rattle.records.proofs.head_of.Statement.{statement}
 use Rattle.records.proofs.head_of.Tie as tie
@@ -51,7 +51,7 @@ module _ (n : ℕ) where
         said = ap answerSaid (sym g) ∙ e
 
         by : (lastYear < n) ⊎ (n ≤ lastYear) → suc lastLunation ≡ head cal n
-        by (inl h) = let last : n ≡ suc lastYear = omega arith in sym (ap (head cal) last ∙ figures .head-1000)
+        by (inl h) = let last : n ≡ suc lastYear = omega arith in sym (ap (head cal) last ∙ head-1000)
         by (inr h) = let p : headReply shoushi n ≡ answer (head cal n) = answered h in cc
 
 head-requires : tie.Need-head-requires
