@@ -14,7 +14,8 @@ use Rattle.measure.specs.Choice.{if_then_else_, _=?_}
 use Rattle.measure.specs.Reply.{refused, badLine}
 use Rattle.measure.specs.Epoch.{Epoch}
 use Rattle.measure.proofs.Choice.{lt-or-ge}
-use Rattle.day_lines.specs.DayLine.{lineEnd, lineLength, dayAsked}
+use Rattle.line_ends.specs.LineEnds.{lineEnd, lineLength}
+use Rattle.day_lines.specs.DayLine.{dayAsked}
 use Rattle.reply_lines.specs.ReplyLine.{lineOf}
 use Rattle.lines.specs.Line.{lineReply, lastLine, outputFrom, output}
 use Rattle.lines.proofs.LineLaws.{bad-line}

@@ -5,7 +5,7 @@ use mathlib.Core.List.{List, _++_}
 use Prim.Native.Nat.{ℕ, _-_, _≤_, _<_}
 use lib.ListN.{length, getD, drop}
 use Rattle.measure.specs.Epoch.{shoushi}
-use Rattle.day_lines.specs.DayLine.{lineEnd, lineLength}
+use Rattle.line_ends.specs.LineEnds.{lineEnd, lineLength}
 use Rattle.lines.specs.Line.{output}
 
 -- a line of six bytes is refused, whatever follows: no more of it need be kept

@@ -1,5 +1,5 @@
 // A block of the input: the lines that end in it are answered, and what the unfinished line needs is kept.
-use day_lines::LINE_END;
+use line_ends::LINE_END;
 use measure::Answer;
 ghost use mathlib.Core.Path.{_≡_};
 ghost use Prim.Native.Nat.{_+_, _*_, _≤_, min};

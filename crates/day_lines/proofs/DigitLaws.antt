@@ -1,6 +1,6 @@
--- Laws of digits: what one is worth, and the number that a line spells.
+-- Laws of digits: what one is worth, the number that a line spells, and what is refused.
 -- Assumes nothing.
-use mathlib.Core.Bool.{_&&_}
+use mathlib.Core.Bool.{Bool, true, false, _&&_}
 use mathlib.Core.Path.{_≡_, _∙_, refl, sym}
 use mathlib.Core.List.{List, [], _∷_}
 use Prim.Native.Nat.{ℕ, _+_, _-_, _*_, _^_, _≤_, _<_}
@@ -11,11 +11,11 @@ use borrow.Author.Tests.{ltb-true}
 use lib.Dec.{lit<}
 use lib.ListN.{length, getD, drop}
 use lib.Seq.{drop-cons}
-use Rattle.measure.specs.Choice.{_≤?_, _<?_}
+use Rattle.measure.specs.Choice.{if_then_else_, _=?_, _≤?_, _<?_}
 use Rattle.measure.specs.Reply.{Reply, answer, refused, badLine}
 use Rattle.measure.proofs.Choice.{if-cases, right-passes}
 use Rattle.day_lines.specs.Digits.{Digit, worth, noDigit, digitOf}
-use Rattle.day_lines.specs.DayLine.{withDigit, spelled}
+use Rattle.day_lines.specs.DayLine.{withDigit, spelled, dayAsked}
 
 -- a digit is worth less than 16
 abbrev Small : Digit → Type 0
@@ -59,3 +59,12 @@ spelled-step before line i h = rw (add-one, drop-cons line i 0)
 -- what fewer than five digits spell
 pub power : (i : ℕ) → i < 5 → 16 ^ i ≤ 65_536
 power i h = pow-le-pow-right (lit< tt) {j = 4} (omega arith)
+
+-- what is refused: a line that asks for no day
+pub only-bad : (line : List ℕ) (k : ℕ) → dayAsked line ≡ refused k → k ≡ badLine
+unfolding dayAsked
+only-bad line k h = only (length line =? 5) h
+  where
+    only : (t : Bool) → (if t then spelled (answer 0) line else refused badLine) ≡ refused k → k ≡ badLine
+    only true f = spelled-only 0 k line f
+    only false f = cc

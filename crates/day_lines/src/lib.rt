@@ -1,39 +1,12 @@
-// Hexadecimal lines that ask for a day: where a line ends, what is handed on after it, and the day that it asks for.
+// Hexadecimal lines that ask for a day: the day that a line asks for.
 use measure::Answer;
 use measure::BAD_LINE;
 ghost use mathlib.Core.Path.{_≡_};
 ghost use Rattle.measure.specs.Reply.{answerSaid};
 ghost use Rattle.day_lines.specs.Digits.{digitOf, digitSaid};
-ghost use Rattle.day_lines.specs.DayLine.{lineLength, restAfter, dayAsked};
-
-pub const LINE_END: u8 = 0x0A;
+ghost use Rattle.day_lines.specs.DayLine.{dayAsked};
 
 const DIGITS_ASKED: usize = 5;
-
-// How many bytes the first line of the input has: those before the line end, or all.
-pub fn line_len(input: &[u8]) -> usize
-    ensures { λ r. ⌜ r ≡ lineLength (now (input .entry)) ⌝ }
-{
-    let mut n: usize = 0;
-    while n < input.len() {
-        if input[n] == LINE_END {
-            return n;
-        }
-        n += 1;
-    }
-    n
-}
-
-// The rest of the input, after a line of n bytes and its line end. It is handed on as it stands.
-pub fn rest<'a>(input: &'a [u8], n: usize) -> &'a [u8]
-    ensures { λ r. ⌜ now r ≡ restAfter n (now (input .entry)) ⌝ }
-{
-    if n < input.len() {
-        &input[n + 1..]
-    } else {
-        &input[..0]
-    }
-}
 
 // The day that a line asks for. A line that is not exactly five digits is refused with 5.
 pub fn day_asked(line: &[u8]) -> Answer

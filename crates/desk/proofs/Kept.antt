@@ -8,7 +8,7 @@ use borrow.Author.Tests.{eq-eqb, ne-eqb}
 use lib.ListN.{length, take, getD}
 use lib.Seq.{take-suc}
 use Rattle.measure.specs.Choice.{if_then_else_, _=?_}
-use Rattle.day_lines.specs.DayLine.{lineEnd}
+use Rattle.line_ends.specs.LineEnds.{lineEnd}
 use Rattle.measure.specs.Epoch.{shoushi}
 use Rattle.questions.specs.Question.{replyTo}
 use Rattle.replies.specs.ReplyText.{replyText}

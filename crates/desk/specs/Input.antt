@@ -8,7 +8,7 @@ use lib.IntN.{ℤ, pos, negsuc}
 use lib.ListN.{length, take}
 use Rattle.measure.specs.Choice.{if_then_else_, _<?_, _=?_}
 use Rattle.measure.specs.Epoch.{shoushi}
-use Rattle.day_lines.specs.DayLine.{lineEnd}
+use Rattle.line_ends.specs.LineEnds.{lineEnd}
 use Rattle.questions.specs.Question.{replyTo}
 use Rattle.replies.specs.ReplyText.{replyText}
 use Rattle.desk.specs.declared.input.Turn.{Turn}

@@ -1,8 +1,8 @@
 // The lines: the arguments as one, or those of standard input, which comes by blocks. Each is answered as it ends.
-use day_lines::LINE_END;
 use libc::STDERR_FILENO;
 use libc::STDIN_FILENO;
 use libc::STDOUT_FILENO;
+use line_ends::LINE_END;
 use measure::Answer;
 ghost use mathlib.Core.Path.{_≡_};
 ghost use mathlib.Core.List.{[], _∷_, _++_};

@@ -18,8 +18,10 @@ use Rattle.measure.specs.Epoch.{Epoch}
 use Rattle.measure.proofs.Choice.{passes-or-fails}
 use Rattle.measure.proofs.Row.{more-written}
 use Rattle.months.specs.Month.{MonthOfDay, earliest, latest, dayReply}
-use Rattle.day_lines.specs.DayLine.{lineEnd, lineLength, restAfter, dayAsked}
-use Rattle.day_lines.proofs.LineLaws.{length-most, only-bad, rest-length}
+use Rattle.line_ends.specs.LineEnds.{lineEnd, lineLength, restAfter}
+use Rattle.line_ends.proofs.LineLaws.{length-most, rest-length}
+use Rattle.day_lines.specs.DayLine.{dayAsked}
+use Rattle.day_lines.proofs.DigitLaws.{only-bad}
 use Rattle.reply_lines.specs.ReplyLine.{lineOf}
 use Rattle.reply_lines.proofs.DigitLaws.{length-digits}
 use Rattle.reply_lines.proofs.LineLaws.{month-length}

@@ -8,7 +8,8 @@ use Rattle.measure.specs.Choice.{if_then_else_, _<?_, _=?_}
 use Rattle.measure.specs.Reply.{Reply, answer, refused, shortRow, refuseIf}
 use Rattle.measure.specs.Epoch.{Epoch}
 use Rattle.months.specs.Month.{MonthOfDay, dayReply}
-use Rattle.day_lines.specs.DayLine.{lineEnd, dayAsked}
+use Rattle.line_ends.specs.LineEnds.{lineEnd}
+use Rattle.day_lines.specs.DayLine.{dayAsked}
 use Rattle.reply_lines.specs.ReplyLine.{lineOf}
 
 -- a malformed line is refused before a day outside the calendar

@@ -1,7 +1,7 @@
 // The replies to hexadecimal lines: a day in and a month out.
 use day_lines::day_asked;
-use day_lines::line_len;
-use day_lines::rest;
+use line_ends::line_len;
+use line_ends::rest;
 use measure::Answer;
 use measure::BAD_LINE;
 use measure::NO_DAY;

@@ -5,7 +5,7 @@ use Prim.Native.Nat.{ℕ}
 use Rattle.measure.specs.Reply.{Reply, answer, refused}
 use Rattle.kinds.specs.Kind.{Kind, ordinary, leap}
 use Rattle.months.specs.Month.{MonthOfDay}
-use Rattle.day_lines.specs.DayLine.{lineEnd}
+use Rattle.line_ends.specs.LineEnds.{lineEnd}
 use Rattle.reply_lines.specs.Digits.{digitsOf}
 
 -- number and leap digit

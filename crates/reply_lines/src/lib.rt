@@ -1,6 +1,6 @@
 // The line of a reply, in hexadecimal digits: a month's, and a refusal's.
-use day_lines::LINE_END;
 use kinds::Kind;
+use line_ends::LINE_END;
 use months::Month;
 ghost use mathlib.Core.Path.{_≡_};
 ghost use mathlib.Core.List.{_++_};

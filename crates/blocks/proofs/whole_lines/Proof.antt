@@ -6,8 +6,8 @@ use borrow.Author.Tests.{ne-eqb}
 use denote.Ref.{now}
 use lib.ListN.{length, drop, length-drop}
 use lib.Seq.{drop-length}
-use Rattle.day_lines.specs.DayLine.{lineLength}
-use Rattle.day_lines.proofs.LineLaws.{length-step}
+use Rattle.line_ends.specs.LineEnds.{lineLength}
+use Rattle.line_ends.proofs.LineLaws.{length-step}
 use Rattle.blocks.proofs.whole_lines.Statement.{statement}
 use Rattle.blocks.proofs.whole_lines.Tie as tie
 

@@ -4,7 +4,7 @@ use Prim.Native.Nat.{_≤_}
 use native.Mathlib.Omega.{arith}
 use borrow.Author.Needs.{needs}
 use lib.ListN.{length, take}
-use Rattle.day_lines.specs.DayLine.{lineLength}
+use Rattle.line_ends.specs.LineEnds.{lineLength}
 use Rattle.blocks.specs.Block.{enough, Unfinished}
 use Rattle.month_lines.proofs.main.Statement.{statement}
 use Rattle.month_lines.proofs.main.Tie as tie

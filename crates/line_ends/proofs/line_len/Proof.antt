@@ -1,14 +1,14 @@
--- `day_lines::line_len` meets its contract. Assumes nothing.
+-- `line_ends::line_len` meets its contract. Assumes nothing.
 use mathlib.Core.Path.{_≡_, _∙_, ap}
 use Prim.Native.Nat.{suc, _+_, _-_, _≤_}
 use native.Mathlib.Omega.{arith}
 use borrow.Author.Tests.{eq-eqb, ne-eqb}
 use denote.Ref.{now}
 use lib.ListN.{length, drop, drop-of-length-le}
-use Rattle.day_lines.specs.DayLine.{lineLength}
-use Rattle.day_lines.proofs.LineLaws.{length-step}
-use Rattle.day_lines.proofs.line_len.Statement.{statement}
-use Rattle.day_lines.proofs.line_len.Tie as tie
+use Rattle.line_ends.specs.LineEnds.{lineLength}
+use Rattle.line_ends.proofs.LineLaws.{length-step}
+use Rattle.line_ends.proofs.line_len.Statement.{statement}
+use Rattle.line_ends.proofs.line_len.Tie as tie
 
 abbrev Inv-loop : tie.InvT-loop
 Inv-loop input n₀ n = (n ≤ length input) × (lineLength input ≡ n + lineLength (drop n input))

@@ -1,4 +1,4 @@
--- `day_lines::rest` meets its contract. Assumes nothing.
+-- `line_ends::rest` meets its contract. Assumes nothing.
 use mathlib.Core.Path.{sym}
 use Prim.Native.Nat.{_+_, _-_, _≤_}
 use native.Mathlib.Omega.{arith}
@@ -6,9 +6,9 @@ use borrow.Author.Needs.{needs}
 use denote.Ref.{now}
 use lib.ListN.{length, drop, length-drop, drop-of-length-le}
 use lib.Seq.{take-all}
-use Rattle.day_lines.specs.DayLine.{restAfter}
-use Rattle.day_lines.proofs.rest.Statement.{statement}
-use Rattle.day_lines.proofs.rest.Tie as tie
+use Rattle.line_ends.specs.LineEnds.{restAfter}
+use Rattle.line_ends.proofs.rest.Statement.{statement}
+use Rattle.line_ends.proofs.rest.Tie as tie
 
 add-result : tie.Need-add-result
 add-result c = search needs

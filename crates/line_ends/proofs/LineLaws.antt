@@ -1,4 +1,4 @@
--- Laws of lines: the first line of an input and what is handed on, and what is refused.
+-- Laws of lines: the first line of an input and what is handed on.
 -- Assumes nothing.
 use mathlib.Core.Bool.{Bool, true, false}
 use mathlib.Core.Path.{_≡_}
@@ -9,9 +9,7 @@ use native.Mathlib.Omega.{arith}
 use lib.ListN.{length, getD, drop, length-drop}
 use lib.Seq.{drop-cons}
 use Rattle.measure.specs.Choice.{if_then_else_, _=?_}
-use Rattle.measure.specs.Reply.{answer, refused, badLine}
-use Rattle.day_lines.specs.DayLine.{lineEnd, lineLength, restAfter, spelled, dayAsked}
-use Rattle.day_lines.proofs.DigitLaws.{spelled-only}
+use Rattle.line_ends.specs.LineEnds.{lineEnd, lineLength, restAfter}
 
 -- one byte more of a line
 pub length-step : (input : List ℕ) (n : ℕ) → n < length input
@@ -27,15 +25,6 @@ length-most (b ∷ bs) = most (b =? lineEnd) (lineLength bs) (length bs) (length
     most : (t : Bool) (m n : ℕ) → m ≤ n → (if t then 0 else suc m) ≤ suc n
     most true m n h = omega arith
     most false m n h = omega arith
-
--- what is refused: a line that asks for no day
-pub only-bad : (line : List ℕ) (k : ℕ) → dayAsked line ≡ refused k → k ≡ badLine
-unfolding dayAsked
-only-bad line k h = only (length line =? 5) h
-  where
-    only : (t : Bool) → (if t then spelled (answer 0) line else refused badLine) ≡ refused k → k ≡ badLine
-    only true f = spelled-only 0 k line f
-    only false f = cc
 
 -- what is handed on is shorter
 pub rest-length : (n : ℕ) (input : List ℕ) → length (restAfter n input) ≡ length input - (n + 1)
