@@ -9,13 +9,15 @@ use Rattle.measure.specs.Units.{year, anomalisticMonth}
 use Rattle.remainders.specs.ExtraDays.{monthDeficit}
 use Rattle.measure.proofs.Choice.{lt-or-ge}
 use Rattle.signed.specs.Signed.{Signed, aheadBy, minus}
-use Rattle.inequality.specs.Solar.{solar}
-use Rattle.inequality.specs.Lunar.{lunar, anomalyAdvance}
-use Rattle.inequality.specs.Motion.{motion}
-use Rattle.inequality.proofs.Sizes.{Within, differenceSize, difference-size}
-use Rattle.inequality.proofs.MotionRows.{leastMotion, motionStep}
-use Rattle.inequality.proofs.Rows.{motion-least}
+use Rattle.signed.proofs.Sizes.{Within}
+use Rattle.limits.specs.Limits.{anomalyAdvance}
+use Rattle.solar.specs.Solar.{solar}
+use Rattle.lunar.specs.Lunar.{lunar}
+use Rattle.motions.specs.Motion.{motion}
+use Rattle.motions.proofs.MotionRows.{leastMotion, motionStep}
+use Rattle.motions.proofs.Rows.{motion-least}
 use Rattle.moons.specs.TrueMoon.{corrected, correction}
+use Rattle.moons.proofs.Sizes.{differenceSize, difference-size}
 use Rattle.moons.proofs.Quotient.{quotient, quotient-above, quotient-below, quotient-least, corrected-is}
 use Rattle.edition.proofs.Signed.{gap, gap-sym, gap-minus}
 use Rattle.edition.proofs.SolarStep.{mostSolarAdvance, solarStepBound, solar-step}

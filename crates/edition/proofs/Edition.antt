@@ -7,10 +7,10 @@ use native.Mathlib.Omega.{arith}
 use Rattle.measure.specs.Units.{termStep}
 use Rattle.measure.specs.Epoch.{Epoch, shoushi, meanStart}
 use Rattle.measure.specs.Days.{dayOf}
-use Rattle.inequality.specs.Law.{taken, law, exact}
-use Rattle.inequality.specs.Solar.{fastAt, slowAt, solar, solarTime}
-use Rattle.inequality.specs.Lunar.{lunarMagnitude, lunar, anomaly}
-use Rattle.inequality.specs.Motion.{wholeLaw, motionAt, motionInRow, rowOf, motion}
+use Rattle.laws.specs.Law.{taken, law, exact}
+use Rattle.solar.specs.Solar.{fastAt, slowAt, solar, solarTime}
+use Rattle.lunar.specs.Lunar.{lunarMagnitude, lunar, anomaly}
+use Rattle.motions.specs.Motion.{wholeLaw, motionAt, motionInRow, rowOf, motion}
 use Rattle.seasons.specs.Solstice.{solstice}
 use Rattle.seasons.specs.Terms.{term}
 use Rattle.moons.specs.Lunation.{mean}

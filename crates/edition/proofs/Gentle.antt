@@ -13,8 +13,8 @@ use Rattle.measure.specs.Choice.{if_then_else_, _≤?_, _<?_}
 use Rattle.measure.specs.Units.{day}
 use Rattle.measure.proofs.Choice.{lt-or-ge, passes-or-fails}
 use Rattle.signed.specs.Signed.{Signed, aheadBy, behindBy}
-use Rattle.inequality.specs.Law.{Law, law}
-use Rattle.inequality.proofs.LawStep.{Steady, law-rises, law-falls}
+use Rattle.laws.specs.Law.{Law, law}
+use Rattle.laws.proofs.LawStep.{Steady, law-rises, law-falls}
 use Rattle.edition.proofs.Signed.{gap, gap-sym, gap-triangle, gap-behind}
 
 -- f from lo to hi

@@ -7,9 +7,10 @@ use lib.Dec.{lit≤}
 use Rattle.measure.specs.Choice.{_≤?_, _<?_}
 use Rattle.measure.specs.Units.{day, anomalisticMonth, anomalisticHalf}
 use Rattle.signed.specs.Signed.{Signed, aheadBy, behindBy}
-use Rattle.inequality.specs.Law.{lawMoon, taken, law}
-use Rattle.inequality.specs.Lunar.{middle, end, limits, lunarMagnitude, lunar, anomalyAdvance}
-use Rattle.inequality.proofs.LawStep.{Steady}
+use Rattle.laws.specs.Law.{lawMoon, taken, law}
+use Rattle.laws.proofs.LawStep.{Steady}
+use Rattle.limits.specs.Limits.{middle, end, limits, anomalyAdvance}
+use Rattle.lunar.specs.Lunar.{lunarMagnitude, lunar}
 use Rattle.edition.proofs.Signed.{gap}
 use Rattle.edition.proofs.Gentle.{Gentle, glue, up-to, before, backwards, later, opposite, law-gentle, around}
 

@@ -8,9 +8,10 @@ use Rattle.remainders.specs.ExtraDays.{monthDeficit}
 use Rattle.measure.specs.Epoch.{Epoch, meanStart}
 use Rattle.measure.specs.Days.{dayOf}
 use Rattle.signed.specs.Signed.{Signed}
-use Rattle.inequality.specs.Solar.{solarTime}
-use Rattle.inequality.specs.Lunar.{anomaly, anomalyAdvance}
-use Rattle.inequality.proofs.Sizes.{Within}
+use Rattle.signed.proofs.Sizes.{Within}
+use Rattle.limits.specs.Limits.{anomalyAdvance}
+use Rattle.solar.specs.Solar.{solarTime}
+use Rattle.lunar.specs.Lunar.{anomaly}
 use Rattle.moons.specs.Lunation.{mean}
 use Rattle.moons.specs.TrueMoon.{correction, correctionOf, moved, trueMoon, firstDay}
 use Rattle.moons.proofs.Times.{solar-time-lt, anomaly-lt, mean-least}

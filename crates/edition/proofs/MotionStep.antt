@@ -9,10 +9,10 @@ use borrow.Author.Tests.{lt-ltb, le-ltb}
 use Rattle.measure.specs.Units.{day, anomalisticMonth, anomalisticHalf}
 use Rattle.measure.proofs.Choice.{lt-or-ge}
 use Rattle.signed.specs.Signed.{aheadBy}
-use Rattle.inequality.specs.Lunar.{end, limits, anomalyAdvance}
-use Rattle.inequality.specs.Motion.{wholeLimit, motionInRow, rows, rowOf, motion}
-use Rattle.inequality.proofs.MotionRows.{rowOn, fewerRows, moreRows, motionStep, Near, near-fewer, near-more}
-use Rattle.inequality.proofs.Rows.{row-lt}
+use Rattle.limits.specs.Limits.{end, limits, wholeLimit, anomalyAdvance}
+use Rattle.motions.specs.Motion.{motionInRow, rows, rowOf, motion}
+use Rattle.motions.proofs.MotionRows.{rowOn, fewerRows, moreRows, motionStep, Near, near-fewer, near-more}
+use Rattle.motions.proofs.Rows.{row-lt}
 use Rattle.edition.proofs.Signed.{gap}
 
 -- the rows

@@ -7,9 +7,9 @@ use lib.Dec.{lit≤}
 use Rattle.measure.specs.Choice.{_≤?_, _<?_}
 use Rattle.measure.specs.Units.{day, year, halfYear, month}
 use Rattle.signed.specs.Signed.{Signed, aheadBy, behindBy}
-use Rattle.inequality.specs.Law.{lawA, lawB, taken, law}
-use Rattle.inequality.specs.Solar.{fastLimit, slowLimit, fastAt, slowAt, solar}
-use Rattle.inequality.proofs.LawStep.{Steady}
+use Rattle.laws.specs.Law.{lawA, lawB, taken, law}
+use Rattle.laws.proofs.LawStep.{Steady}
+use Rattle.solar.specs.Solar.{fastLimit, slowLimit, fastAt, slowAt, solar}
 use Rattle.edition.proofs.Signed.{gap}
 use Rattle.edition.proofs.Gentle.{Gentle, weaken, glue, up-to, before, backwards, later, opposite, law-gentle, around}
 

@@ -9,7 +9,7 @@ use Rattle.words.specs.Numbers.{endOf, partOf, restOf, numbersOf}
 use Rattle.measure.specs.Epoch.{shoushi}
 use Rattle.remainders.specs.Hours.{hourReply, doubleHour, ke}
 use Rattle.remainders.specs.ExtraDays.{extraReply, extraDay}
-use Rattle.inequality.specs.Motion.{motionAtReply}
+use Rattle.motions.specs.Motion.{motionAtReply}
 use Rattle.seasons.specs.Solstice.{solsticeReply, solstice}
 use Rattle.seasons.specs.Terms.{termReply}
 use Rattle.questions.specs.Text.{same}

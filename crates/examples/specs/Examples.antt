@@ -10,10 +10,11 @@ use Rattle.measure.specs.Days.{dayOf, sixtyName}
 use Rattle.remainders.specs.Hours.{doubleHour, ke, hourReply}
 use Rattle.remainders.specs.ExtraDays.{daysOn, none, extraDay, extraReply}
 use Rattle.signed.specs.Signed.{aheadBy, behindBy}
-use Rattle.inequality.specs.Law.{taken, law, exact}
-use Rattle.inequality.specs.Solar.{fast, slow, fastAt, slowAt, solarAt, solar, solarTime}
-use Rattle.inequality.specs.Lunar.{quick, tardy, lunarMagnitude, lunarAt, lunar, anomaly}
-use Rattle.inequality.specs.Motion.{wholeLaw, motionAt, motionInRow, rowOf, motion}
+use Rattle.laws.specs.Law.{taken, law, exact}
+use Rattle.limits.specs.Limits.{quick, tardy}
+use Rattle.solar.specs.Solar.{fast, slow, fastAt, slowAt, solarAt, solar, solarTime}
+use Rattle.lunar.specs.Lunar.{lunarMagnitude, lunarAt, lunar, anomaly}
+use Rattle.motions.specs.Motion.{wholeLaw, motionAt, motionInRow, rowOf, motion}
 use Rattle.seasons.specs.Solstice.{solstice}
 use Rattle.seasons.specs.Terms.{term}
 use Rattle.moons.specs.Lunation.{mean}

@@ -13,10 +13,11 @@ use Rattle.measure.specs.Days.{sixtyName, stem, branch}
 use Rattle.remainders.specs.Hours.{doubleHour, ke, hourReply}
 use Rattle.remainders.specs.ExtraDays.{daysOn, none, extraDay, extraReply, vanishingDay, vanishingReply}
 use Rattle.signed.specs.Signed.{aheadBy, behindBy}
-use Rattle.inequality.specs.Law.{taken, law, exact}
-use Rattle.inequality.specs.Solar.{slow, fast, fastAt, slowAt, solar, solarTime, solarAtReply}
-use Rattle.inequality.specs.Lunar.{quick, tardy, lunarMagnitude, lunar, anomaly, lunarAtReply}
-use Rattle.inequality.specs.Motion.{wholeLaw, motionAt, motionInRow, rowOf, motion, motionAtReply}
+use Rattle.laws.specs.Law.{taken, law, exact}
+use Rattle.limits.specs.Limits.{quick, tardy}
+use Rattle.solar.specs.Solar.{slow, fast, fastAt, slowAt, solar, solarTime, solarAtReply}
+use Rattle.lunar.specs.Lunar.{lunarMagnitude, lunar, anomaly, lunarAtReply}
+use Rattle.motions.specs.Motion.{wholeLaw, motionAt, motionInRow, rowOf, motion, motionAtReply}
 use Rattle.seasons.specs.Solstice.{solstice, solsticeReply}
 use Rattle.seasons.specs.Terms.{term, termReply, termList, termsReply, pentad, pentadReply, earth, earthReply}
 use Rattle.moons.specs.Lunation.{mean, meanReply}

@@ -6,9 +6,9 @@ use Prim.Native.Nat.{ℕ, _*_, _/_, _%_}
 use lib.Dec.{T}
 use Rattle.measure.specs.Choice.{_=?_}
 use Rattle.measure.specs.Units.{day}
-use Rattle.inequality.specs.Law.{lawA, lawB, taken, law, exact}
-use Rattle.inequality.specs.Lunar.{lunarMagnitude}
-use Rattle.inequality.specs.Motion.{wholeLaw}
+use Rattle.laws.specs.Law.{lawA, lawB, taken, law, exact}
+use Rattle.lunar.specs.Lunar.{lunarMagnitude}
+use Rattle.motions.specs.Motion.{wholeLaw}
 
 -- every row of a table passes
 every : {A : Type 0} → (A → Bool) → List A → Bool

@@ -12,13 +12,13 @@ use mir.Facts.{toZ-ofZ}
 use Rattle.measure.specs.Epoch.{shoushi}
 use Rattle.signed.specs.Signed.{minus, integer}
 use Rattle.signed.proofs.Integers.{integer-minus, integer-mag, opposite-mag, held}
-use Rattle.inequality.specs.Solar.{solar}
-use Rattle.inequality.specs.Lunar.{lunar}
-use Rattle.inequality.specs.Motion.{motion}
-use Rattle.inequality.proofs.Sizes.{differenceSize, difference-size}
-use Rattle.inequality.proofs.Rows.{motion-most}
+use Rattle.solar.specs.Solar.{solar}
+use Rattle.lunar.specs.Lunar.{lunar}
+use Rattle.motions.specs.Motion.{motion}
+use Rattle.motions.proofs.Rows.{motion-most}
 use Rattle.moons.specs.Lunation.{Counted, mean}
 use Rattle.moons.specs.TrueMoon.{correctionFactor, correction, correctionOf, moved, trueMoon}
+use Rattle.moons.proofs.Sizes.{differenceSize, difference-size}
 use Rattle.moons.proofs.Times.{mean-most}
 use Rattle.moons.proofs.Corrected.{difference, integer-correction, correction-size, correction-of-size, integer-true}
 

@@ -10,13 +10,14 @@ use lib.Signed.{quotZ}
 use Rattle.measure.specs.Epoch.{shoushi}
 use Rattle.signed.specs.Signed.{Signed, aheadBy, minus, integer}
 use Rattle.signed.proofs.Integers.{Is, is-subℕ, is-neg, is-integer, integer-is, integer-ahead, integer-minus}
-use Rattle.inequality.specs.Solar.{solar, solarTime}
-use Rattle.inequality.specs.Lunar.{lunar, anomaly}
-use Rattle.inequality.specs.Motion.{motion}
-use Rattle.inequality.proofs.Sizes.{Within, difference-size}
-use Rattle.inequality.proofs.Rows.{motion-least}
+use Rattle.signed.proofs.Sizes.{Within}
+use Rattle.solar.specs.Solar.{solar, solarTime}
+use Rattle.lunar.specs.Lunar.{lunar, anomaly}
+use Rattle.motions.specs.Motion.{motion}
+use Rattle.motions.proofs.Rows.{motion-least}
 use Rattle.moons.specs.Lunation.{mean}
 use Rattle.moons.specs.TrueMoon.{correctionFactor, corrected, correction, correctionOf, moved, trueMoon}
+use Rattle.moons.proofs.Sizes.{difference-size}
 use Rattle.moons.proofs.Quotient.{quotient-least, corrected-is}
 use Rattle.moons.proofs.Times.{mean-least}
 

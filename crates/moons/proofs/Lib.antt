@@ -1,5 +1,6 @@
 pub mod Admitted
 pub mod Times
+pub mod Sizes
 pub mod Quotient
 pub mod Corrected
 pub mod Bits

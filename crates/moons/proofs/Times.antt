@@ -4,8 +4,8 @@ use Prim.Native.Nat.{ℕ, _*_, _≤_, _<_}
 use native.Mathlib.Omega.{arith}
 use Rattle.measure.specs.Units.{day, year, anomalisticMonth}
 use Rattle.measure.specs.Epoch.{Epoch, shoushi, meanStart}
-use Rattle.inequality.specs.Solar.{solarTime}
-use Rattle.inequality.specs.Lunar.{anomaly}
+use Rattle.solar.specs.Solar.{solarTime}
+use Rattle.lunar.specs.Lunar.{anomaly}
 use Rattle.moons.specs.Lunation.{Counted, mean}
 
 pub solar-time-lt : (e : Epoch) (l q : ℕ) → solarTime e l q < year

@@ -5,9 +5,9 @@ use Rattle.measure.specs.Reply.{Reply}
 use Rattle.measure.specs.Days.{dayOf}
 use Rattle.measure.specs.Epoch.{Epoch}
 use Rattle.signed.specs.Signed.{Signed, minus}
-use Rattle.inequality.specs.Solar.{solar, solarTime}
-use Rattle.inequality.specs.Lunar.{lunar, anomaly}
-use Rattle.inequality.specs.Motion.{motion}
+use Rattle.solar.specs.Solar.{solar, solarTime}
+use Rattle.lunar.specs.Lunar.{lunar, anomaly}
+use Rattle.motions.specs.Motion.{motion}
 use Rattle.moons.specs.Lunation.{ofQuarter, mean}
 
 -- what the correction multiplies by: 0.0820 day to a limit

@@ -18,8 +18,8 @@ ghost use Rattle.measure.specs.Reply.{answerSaid};
 ghost use Rattle.measure.specs.Units.{year, anomalisticMonth};
 ghost use Rattle.measure.specs.Epoch.{shoushi};
 ghost use Rattle.signed.specs.Signed.{integer, asInteger, signedSaid};
-ghost use Rattle.inequality.specs.Solar.{solarTime};
-ghost use Rattle.inequality.specs.Lunar.{anomaly};
+ghost use Rattle.solar.specs.Solar.{solarTime};
+ghost use Rattle.lunar.specs.Lunar.{anomaly};
 ghost use Rattle.moons.specs.Lunation.{lastLunation, lastQuarter, Counted, mean, meanReply};
 ghost use Rattle.moons.specs.TrueMoon.{correction, correctionOf, trueMoon, solarReply, lunarReply, motionReply, correctionReply, trueReply};
 
@@ -46,7 +46,7 @@ pub fn solar(l: u64, q: u64) -> SignedAnswer
     if outside(l, q) {
         return SignedAnswer::Refused(OUTSIDE);
     }
-    SignedAnswer::Number(inequality::solar(solar_time(l, q)))
+    SignedAnswer::Number(solar::solar(solar_time(l, q)))
 }
 
 // The lunar inequality.
@@ -56,7 +56,7 @@ pub fn lunar(l: u64, q: u64) -> SignedAnswer
     if outside(l, q) {
         return SignedAnswer::Refused(OUTSIDE);
     }
-    SignedAnswer::Number(inequality::lunar(anomaly(l, q)))
+    SignedAnswer::Number(lunar::lunar(anomaly(l, q)))
 }
 
 // The moon's motion.
@@ -66,7 +66,7 @@ pub fn motion(l: u64, q: u64) -> Answer
     if outside(l, q) {
         return Answer::Refused(OUTSIDE);
     }
-    Answer::Number(inequality::motion(anomaly(l, q)))
+    Answer::Number(motions::motion(anomaly(l, q)))
 }
 
 // The correction.
@@ -152,6 +152,6 @@ fn correction_at(time: u64, anomaly: u64) -> i64
     requires { ⌜ (time < year) × (anomaly < anomalisticMonth) ⌝ }
     ensures { λ r. ⌜ r ≡ integer (correction time anomaly) ⌝ }
 {
-    let ahead = inequality::solar(time) - inequality::lunar(anomaly);
-    ahead * CORRECTION_FACTOR / inequality::motion(anomaly) as i64
+    let ahead = solar::solar(time) - lunar::lunar(anomaly);
+    ahead * CORRECTION_FACTOR / motions::motion(anomaly) as i64
 }

@@ -17,9 +17,10 @@ use Rattle.remainders.specs.Hours.{hourReply}
 use Rattle.remainders.specs.ExtraDays.{Found, none, daysOn, extraReply, vanishingReply}
 use Rattle.measure.specs.declared.Name.{Name}
 use Rattle.signed.specs.Signed.{asInteger}
-use Rattle.inequality.specs.Solar.{fast, slow, solarAtReply}
-use Rattle.inequality.specs.Lunar.{quick, tardy, lunarAtReply}
-use Rattle.inequality.specs.Motion.{motionAtReply}
+use Rattle.limits.specs.Limits.{quick, tardy}
+use Rattle.solar.specs.Solar.{fast, slow, solarAtReply}
+use Rattle.lunar.specs.Lunar.{lunarAtReply}
+use Rattle.motions.specs.Motion.{motionAtReply}
 use Rattle.seasons.specs.Solstice.{solsticeReply}
 use Rattle.seasons.specs.Terms.{termReply, pentadReply, earthReply}
 use Rattle.moons.specs.Lunation.{meanReply}

@@ -4,9 +4,9 @@ use crate::Reply;
 use crate::place::place_of;
 use crate::said::number_of;
 use crate::said::signed_of;
-use inequality::LunarHalf;
-use inequality::SolarHalf;
+use limits::LunarHalf;
 use measure::BAD_LINE;
+use solar::SolarHalf;
 use words::Numbers;
 ghost use mathlib.Core.Path.{_≡_};
 ghost use Rattle.words.specs.Numbers.{partOf, restOf, numbersOf};
@@ -51,8 +51,8 @@ fn solar_at(k: usize, t: u64) -> Reply
     ensures { λ r. ⌜ toldIn r ≡ solarIn t at k ⌝ }
 {
     match k {
-        0 => signed_of(inequality::solar_at(SolarHalf::Fast, t)),
-        1 => signed_of(inequality::solar_at(SolarHalf::Slow, t)),
+        0 => signed_of(solar::solar_at(SolarHalf::Fast, t)),
+        1 => signed_of(solar::solar_at(SolarHalf::Slow, t)),
         _ => Reply::Refused(BAD_LINE),
     }
 }
@@ -67,8 +67,8 @@ fn lunar_at(k: usize, t: u64) -> Reply
     ensures { λ r. ⌜ toldIn r ≡ lunarIn t at k ⌝ }
 {
     match k {
-        0 => signed_of(inequality::lunar_at(LunarHalf::Quick, t)),
-        1 => signed_of(inequality::lunar_at(LunarHalf::Tardy, t)),
+        0 => signed_of(lunar::lunar_at(LunarHalf::Quick, t)),
+        1 => signed_of(lunar::lunar_at(LunarHalf::Tardy, t)),
         _ => Reply::Refused(BAD_LINE),
     }
 }
@@ -83,8 +83,8 @@ fn motion_at(k: usize, t: u64) -> Reply
     ensures { λ r. ⌜ toldIn r ≡ motionIn t at k ⌝ }
 {
     match k {
-        0 => number_of(inequality::motion_at(LunarHalf::Quick, t)),
-        1 => number_of(inequality::motion_at(LunarHalf::Tardy, t)),
+        0 => number_of(motions::motion_at(LunarHalf::Quick, t)),
+        1 => number_of(motions::motion_at(LunarHalf::Tardy, t)),
         _ => Reply::Refused(BAD_LINE),
     }
 }

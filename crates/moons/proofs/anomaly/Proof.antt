@@ -1,7 +1,7 @@
 -- `moons::anomaly` meets its contract. Assumes nothing.
 use mathlib.Core.Path.{refl}
 use borrow.Author.Needs.{needs}
-use Rattle.inequality.specs.Lunar.{anomaly}
+use Rattle.lunar.specs.Lunar.{anomaly}
 use Rattle.moons.proofs.anomaly.Statement.{statement}
 use Rattle.moons.proofs.anomaly.Tie as tie
 

@@ -1,7 +1,7 @@
 -- `moons::correction_at` meets its contract: each step fits its bits and is read back off them. Assumes nothing.
 use native.Mathlib.Omega.{arith}
 use borrow.Author.Needs.{needs}
-use Rattle.inequality.proofs.Rows.{motion-least}
+use Rattle.motions.proofs.Rows.{motion-least}
 use Rattle.moons.proofs.Bits.{fits-as, difference-fits, product-fits, motion-fits, correction-fits, difference-read, product-read, quotient-read, correction-read}
 use Rattle.moons.proofs.correction_at.Statement.{statement}
 use Rattle.moons.proofs.correction_at.Tie as tie

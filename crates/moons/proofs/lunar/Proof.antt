@@ -7,7 +7,7 @@ use Rattle.measure.specs.Reply.{answer}
 use Rattle.measure.specs.Epoch.{shoushi}
 use Rattle.signed.specs.Signed.{integer, asInteger}
 use Rattle.signed.proofs.Integers.{held}
-use Rattle.inequality.specs.Lunar.{lunar}
+use Rattle.lunar.specs.Lunar.{lunar}
 use Rattle.moons.specs.TrueMoon.{lunarReply}
 use Rattle.moons.proofs.Admitted.{refused-past, answered, counted}
 use Rattle.moons.proofs.Times.{anomaly-lt}

@@ -4,7 +4,7 @@ use native.Mathlib.Omega.{arith}
 use borrow.Author.Needs.{needs}
 use Rattle.measure.specs.Reply.{answer}
 use Rattle.measure.specs.Epoch.{shoushi}
-use Rattle.inequality.specs.Motion.{motion}
+use Rattle.motions.specs.Motion.{motion}
 use Rattle.moons.specs.TrueMoon.{motionReply}
 use Rattle.moons.proofs.Admitted.{refused-past, answered, counted}
 use Rattle.moons.proofs.Times.{anomaly-lt}

@@ -7,7 +7,7 @@ use Rattle.measure.specs.Reply.{answer}
 use Rattle.measure.specs.Epoch.{shoushi}
 use Rattle.signed.specs.Signed.{integer, asInteger}
 use Rattle.signed.proofs.Integers.{held}
-use Rattle.inequality.specs.Solar.{solar}
+use Rattle.solar.specs.Solar.{solar}
 use Rattle.moons.specs.TrueMoon.{solarReply}
 use Rattle.moons.proofs.Admitted.{refused-past, answered, counted}
 use Rattle.moons.proofs.Times.{solar-time-lt}

@@ -1,7 +1,7 @@
 -- `moons::solar_time` meets its contract. Assumes nothing.
 use mathlib.Core.Path.{refl}
 use borrow.Author.Needs.{needs}
-use Rattle.inequality.specs.Solar.{solarTime}
+use Rattle.solar.specs.Solar.{solarTime}
 use Rattle.moons.proofs.solar_time.Statement.{statement}
 use Rattle.moons.proofs.solar_time.Tie as tie
 

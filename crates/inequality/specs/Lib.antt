@@ -1,5 +1,0 @@
-pub mod Law
-pub mod Evaluation
-pub mod Solar
-pub mod Lunar
-pub mod Motion

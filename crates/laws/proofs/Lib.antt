@@ -1,0 +1,4 @@
+pub mod Evaluation
+pub mod Sizes
+pub mod Cubic
+pub mod LawStep

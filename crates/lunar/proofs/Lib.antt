@@ -1,0 +1,4 @@
+pub mod NearerEnd
+pub mod Sizes
+pub mod Cubic
+pub mod Unique
