@@ -1,5 +1,6 @@
 // The lines of lists: the terms of a year, and the months of years as records.
 use line_texts::put_refusal;
+use lists::YEAR_NUMBERS;
 use measure::Answer;
 use texts::fill;
 use year_rows::RECORD_WIDTH;
@@ -11,14 +12,14 @@ ghost use Rattle.measure.specs.Reply.{answer};
 ghost use Rattle.texts.specs.Text.{filled};
 ghost use Rattle.year_rows.specs.Records.{recordWidth};
 ghost use Rattle.line_texts.specs.LineText.{lineRoom};
-ghost use Rattle.list_texts.specs.ListText.{recordHoles, recordsText, termsText, yearText, yearsText, recordRoom, yearsRoom};
+ghost use Rattle.list_texts.specs.ListText.{recordHoles, recordsText, termsText, yearText, yearsText, mostRecords, recordRoom, yearsRoom};
 
 pub fn put_terms(n: u64, row: &mut [u8]) -> usize
     requires { ⌜ lineRoom ≤ length (now row) ⌝ }
     ensures { λ k. ⌜ k ≡ length (termsText n) ⌝ }
     ensures { λ _. ⌜ now (row .exit) ≡ over (termsText n) (now (row .entry)) ⌝ }
 {
-    let mut times = [0u64; 24];
+    let mut times = [0u64; measure::TERMS as usize];
     match term_lists::terms(n, &mut times) {
         Answer::Refused(k) => put_refusal(k, row),
         Answer::Number(_) => fill(
@@ -34,18 +35,20 @@ pub fn put_year(n: u64, row: &mut [u8]) -> usize
     ensures { λ k. ⌜ k ≡ length (yearText n) ⌝ }
     ensures { λ _. ⌜ now (row .exit) ≡ over (yearText n) (now (row .entry)) ⌝ }
 {
-    let mut numbers = [0u64; 52];
+    let mut numbers = [0u64; YEAR_NUMBERS];
     match lists::list(n, &mut numbers) {
         Answer::Refused(k) => put_refusal(k, row),
         Answer::Number(count) => put_records(count as usize, &numbers, row),
     }
 }
 
+const ALL_NUMBERS: usize = YEAR_NUMBERS * (measure::LAST_YEAR as usize + 1);
+
 // Room for all years. Its contents do not show, so that no proof spells them out.
-fn years_row() -> [u64; 52000]
-    ensures { λ r. ⌜ 52000 ≡ length r ⌝ }
+fn years_row() -> [u64; ALL_NUMBERS]
+    ensures { λ r. ⌜ recordWidth * mostRecords ≡ length r ⌝ }
 {
-    [0; 52000]
+    [0; ALL_NUMBERS]
 }
 
 pub fn put_years(n: u64, k: u64, row: &mut [u8]) -> usize

@@ -21,6 +21,9 @@ ghost use Rattle.lists.specs.Lists.{runOf, monthsInRun, runAsked, listRe
 // How many records a row needs for each year.
 pub const YEAR_ROOM: u64 = 13;
 
+// And how many numbers these are.
+pub const YEAR_NUMBERS: usize = YEAR_ROOM as usize * RECORD_WIDTH;
+
 // The records of year n, from the row's start; how many there are. A year past the last is refused with 1, then a row that is too short
 // with 4.
 pub fn list(n: u64, row: &mut [u64]) -> Answer

@@ -15,7 +15,10 @@ pub const YEAR: u64 = 36_524_250_000;
 
 pub const HALF_YEAR: u64 = YEAR / 2;
 
-pub const TERM_STEP: u64 = YEAR / 24;
+// Terms in a year.
+pub const TERMS: u64 = 24;
+
+pub const TERM_STEP: u64 = YEAR / TERMS;
 
 pub const PENTAD_STEP: u64 = TERM_STEP / 3;
 

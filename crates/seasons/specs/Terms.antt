@@ -3,7 +3,7 @@
 use mathlib.Core.Bool.{Bool, _||_, not}
 use mathlib.Core.List.{List}
 use Prim.Native.Nat.{ℕ, _+_, _*_, _-_}
-use Rattle.measure.specs.Choice.{_<?_, _=?_}
+use Rattle.measure.specs.Choice.{_≤?_, _<?_, _=?_}
 use Rattle.measure.specs.Reply.{Reply, answer, noYear, outside, shortRow, refuseIf}
 use Rattle.measure.specs.Row.{listed}
 use Rattle.measure.specs.Units.{termStep, pentadStep, earthStep, lastYear}
@@ -18,7 +18,7 @@ unfoldable pub term : Epoch → ℕ → ℕ → ℕ
 term e n i = solstice e n + i * termStep
 
 unfoldable pub termReply : Epoch → ℕ → ℕ → Reply ℕ
-termReply e n i = refuseIf (lastYear <? n) noYear (refuseIf (23 <? i) outside (answer (term e n i)))
+termReply e n i = refuseIf (lastYear <? n) noYear (refuseIf (terms ≤? i) outside (answer (term e n i)))
 
 -- a year's terms in rising order, and the reply where they are written into a row of so many numbers
 unfoldable pub termList : Epoch → ℕ → List ℕ
@@ -34,7 +34,7 @@ pentad e n i p = term e n i + p * pentadStep
 unfoldable pub pentadReply : Epoch → ℕ → ℕ → ℕ → Reply ℕ
 pentadReply e n i p =
     refuseIf (lastYear <? n) noYear
-    (refuseIf (23 <? i) outside
+    (refuseIf (terms ≤? i) outside
     (refuseIf (2 <? p) outside (answer (pentad e n i p))))
 
 -- the middle terms of Dahan, Guyu, Dashu and Shuangjiang

@@ -7,6 +7,7 @@ use measure::OUTSIDE;
 use measure::PENTAD_STEP;
 use measure::SOLSTICE_EPOCH;
 use measure::TERM_STEP;
+use measure::TERMS;
 use measure::YEAR;
 ghost use mathlib.Core.Path.{_≡_};
 ghost use Prim.Native.Nat.{_+_, _≤_, _<_};
@@ -33,7 +34,7 @@ pub fn term(n: u64, i: u64) -> Answer
     if LAST_YEAR < n {
         return Answer::Refused(NO_YEAR);
     }
-    if 23 < i {
+    if TERMS <= i {
         return Answer::Refused(OUTSIDE);
     }
     Answer::Number(term_time(n, i))
@@ -46,7 +47,7 @@ pub fn pentad(n: u64, i: u64, p: u64) -> Answer
     if LAST_YEAR < n {
         return Answer::Refused(NO_YEAR);
     }
-    if 23 < i {
+    if TERMS <= i {
         return Answer::Refused(OUTSIDE);
     }
     if 2 < p {

@@ -13,7 +13,7 @@ ghost use Rattle.measure.specs.Units.{lastYear};
 ghost use Rattle.measure.specs.Epoch.{shoushi};
 ghost use Rattle.seasons.specs.Terms.{terms, termList, termsReply};
 
-const TERMS: usize = 24;
+const TERMS: usize = measure::TERMS as usize;
 
 // The terms of year n from the row's start; how many there are. After the year, a row that is too short is refused with 4.
 pub fn terms(n: u64, row: &mut [u64]) -> Answer

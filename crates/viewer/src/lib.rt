@@ -1,4 +1,5 @@
 // What the viewer calls: the month of a day, and the list of a year as bytes.
+use lists::YEAR_NUMBERS;
 use lists::YEAR_ROOM;
 use measure::Answer;
 use measure::SHORT_ROW;
@@ -76,9 +77,6 @@ pub extern "C" fn lengadriu_year(row: &mut [u8], n: u64) -> Count
 }
 
 const RECORD_BYTES: usize = RECORD_WIDTH * NUMBER_BYTES;
-
-// How many numbers the records of a year are at most.
-const YEAR_NUMBERS: usize = YEAR_ROOM as usize * RECORD_WIDTH;
 
 fn month_told(m: Month) -> Day
     requires { ⌜ Fits (monthSaid m) ⌝ }

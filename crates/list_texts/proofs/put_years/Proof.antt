@@ -2,7 +2,7 @@
 use borrow.Author.Needs.{needs}
 use mathlib.Core.List.{List}
 use mathlib.Core.Path.{_≡_, _∙_, sym, ap}
-use Prim.Native.Nat.{ℕ, _/_}
+use Prim.Native.Nat.{ℕ, _*_, _/_}
 use native.Mathlib.Omega.{arith}
 use denote.Ref.{now}
 use lib.ListN.{length}
@@ -19,7 +19,7 @@ use Rattle.list_texts.proofs.put_years.Statement.{statement}
 use Rattle.list_texts.proofs.put_years.Tie as tie
 
 -- the row has room for all years
-in-room : (n k : ℕ) (row : List ℕ) → 52_000 ≡ length row → runReply shoushi n k (length row / recordWidth) ≡ runReply shoushi n k mostRecords
+in-room : (n k : ℕ) (row : List ℕ) → recordWidth * mostRecords ≡ length row → runReply shoushi n k (length row / recordWidth) ≡ runReply shoushi n k mostRecords
 in-room n k row e = ap (λ (m : ℕ). runReply shoushi n k (m / recordWidth)) (sym e)
 
 years-row-requires : tie.Need-years-row-requires

@@ -1,7 +1,7 @@
 -- `seasons::pentad` meets its contract. Assumes nothing.
 use native.Mathlib.Omega.{arith}
 use borrow.Author.Needs.{needs}
-use borrow.Author.Tests.{lt-ltb, le-ltb}
+use borrow.Author.Tests.{lt-ltb, le-ltb, le-leb, lt-leb}
 use Rattle.seasons.specs.Terms.{pentad, pentadReply}
 use Rattle.seasons.proofs.TermLaws.{term-most}
 use Rattle.seasons.proofs.pentad.Statement.{statement}
@@ -13,12 +13,12 @@ returns c = simp (lt-ltb _ _ (c .if1 .taken))
 
 returns-2 : tie.Need-returns-2
 unfolding pentadReply
-returns-2 c = simp (le-ltb _ _ (c .before .if1 .left), lt-ltb _ _ (c .if2 .taken))
+returns-2 c = simp (le-ltb _ _ (c .before .if1 .left), le-leb _ _ (c .if2 .taken))
 
 returns-3 : tie.Need-returns-3
 unfolding pentadReply
 returns-3 c =
-    simp (le-ltb _ _ (c .before .before .if1 .left), le-ltb _ _ (c .before .if2 .left), lt-ltb _ _ (c .if3 .taken))
+    simp (le-ltb _ _ (c .before .before .if1 .left), lt-leb _ _ (c .before .if2 .left), lt-ltb _ _ (c .if3 .taken))
 
 term-time-requires : tie.Need-term-time-requires
 term-time-requires c κs = search needs
@@ -36,7 +36,7 @@ unfolding pentadReply pentad
 returns-4 c =
     simp (
       le-ltb _ _ (c .before .before .before .if1 .left),
-      le-ltb _ _ (c .before .before .if2 .left),
+      lt-leb _ _ (c .before .before .if2 .left),
       le-ltb _ _ (c .before .if3 .left),
       c .term-time .ensures,
     )
