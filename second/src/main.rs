@@ -2,14 +2,17 @@
 
 use second::calendar::Months;
 use second::{ask, desk, facts, input, lines};
-use std::io::{self, BufReader, BufWriter, Write};
-use std::process::ExitCode;
+use std::io::{self, BufReader, BufWriter, Read, Write};
+use std::os::fd::OwnedFd;
+use std::os::unix::net::UnixStream;
+use std::process::{Command, ExitCode};
 
 const USAGE: &str = "\
 second desk [WORDS..]     answer the question of the words, or one question a line of the input
 second lines              the line program: a day of five hexadecimal digits a line of the input
 second ask SET [COUNT]    write a set of questions for the desk, COUNT of each random kind
 second facts              check what holds of all months together
+second torn COMMAND..     run a command on the input's bytes, and then on reads that fail
 ";
 
 const BUFFER: usize = 1 << 16;
@@ -34,6 +37,7 @@ fn main() -> ExitCode {
             Err(_) => return usage(),
         },
         ["facts"] => return check_facts(),
+        ["torn", command, arguments @ ..] => run_torn(command, arguments),
         _ => return usage(),
     };
     match done {
@@ -76,6 +80,21 @@ fn write_set(set: &str, count: u64) -> io::Result<bool> {
     let known = ask::write(set, count, &mut output)?;
     output.flush()?;
     Ok(known)
+}
+
+/// Returns true, having run a command whose input fails after the bytes of the standard input: no end of it is ever seen.
+fn run_torn(command: &str, arguments: &[&str]) -> io::Result<bool> {
+    let mut bytes = Vec::new();
+    io::stdin().read_to_end(&mut bytes)?;
+    let (mut ours, theirs) = UnixStream::pair()?;
+    ours.write_all(&bytes)?;
+    // a read that would have to wait fails
+    theirs.set_nonblocking(true)?;
+    Command::new(command)
+        .args(arguments)
+        .stdin(OwnedFd::from(theirs))
+        .status()?;
+    Ok(true)
 }
 
 /// Returns success when all facts hold, having written their summary.

@@ -4,11 +4,13 @@ use libc::STDIN_FILENO;
 use libc::STDOUT_FILENO;
 use line_ends::LINE_END;
 use measure::Answer;
+use reads::Got;
 ghost use mathlib.Core.Path.{_≡_};
 ghost use mathlib.Core.List.{[], _∷_, _++_};
 ghost use Prim.Native.Nat.{_+_, _≤_, _<_};
 ghost use lib.ListN.{length, take};
 ghost use Rattle.measure.specs.Epoch.{shoushi};
+ghost use Rattle.reads.specs.Given.{Fits};
 ghost use Rattle.questions.specs.Question.{replyTo};
 ghost use Rattle.list_texts.specs.ListText.{yearsRoom};
 ghost use Rattle.replies.specs.ReplyText.{replyText};
@@ -109,15 +111,16 @@ fn answer_read(block: &[u8], line: &mut [u8], kept: usize, buf: &mut [u8]) -> Tu
     answer_block(block, line, kept, buf)
 }
 
-// Reads once; how many bytes came.
-fn fill(block: &mut [u8]) -> usize
-    ensures { λ r. ⌜ r ≤ length (now (block .entry)) ⌝ }
+// Reads once.
+fn fill(block: &mut [u8]) -> Got
+    ensures { λ r. ⌜ Fits r (length (now (block .entry))) ⌝ }
 {
-    let got = libc::read(STDIN_FILENO, block);
-    io::count(got, block)
+    let answered = libc::read(STDIN_FILENO, block);
+    reads::given(answered, block)
 }
 
-// Nothing says that the input ends, so the turns are counted down from a number that no run uses up.
+// Nothing says that the input ends, so the turns are counted down from a number that no run uses up. A failed read is told, and a line that
+// was begun has no reply then: its end was not seen.
 fn answer_lines(line: &mut [u8], buf: &mut [u8])
     requires { ⌜ yearsRoom ≤ length (now buf) ⌝ }
 {
@@ -125,7 +128,13 @@ fn answer_lines(line: &mut [u8], buf: &mut [u8])
     let mut kept: usize = 0;
     let mut turns = u64::MAX;
     while turns > 0 {
-        let read = fill(&mut block);
+        let Got::Bytes(read) = fill(&mut block) else {
+            io::write_all(
+                STDERR_FILENO,
+                b"desk: the input could not be read to its end\n",
+            );
+            return;
+        };
         let Turn::Begun(n) = answer_read(&block[..read], line, kept, buf) else {
             return;
         };

@@ -4,9 +4,11 @@ use libc::STDERR_FILENO;
 use libc::STDIN_FILENO;
 use libc::STDOUT_FILENO;
 use lines::REPLY_ROOM;
+use reads::Got;
 ghost use mathlib.Core.Path.{_≡_};
-ghost use Prim.Native.Nat.{_*_, _≤_};
+ghost use Prim.Native.Nat.{_*_, _-_, _≤_};
 ghost use lib.ListN.{length, take};
+ghost use Rattle.reads.specs.Given.{Fits};
 ghost use Rattle.lines.specs.Line.{replyRoom};
 ghost use Rattle.blocks.specs.Block.{enough, Unfinished};
 ghost use Rattle.month_lines.specs.Input.{Left, Told};
@@ -34,14 +36,15 @@ fn reply_buffer() -> [u8; ROOM]
     [0; ROOM]
 }
 
-// Reads once, after the kept bytes, which stay; how many bytes there are then.
-fn fill(buf: &mut [u8], kept: usize) -> usize
+// Reads once, after the kept bytes, which stay.
+fn fill(buf: &mut [u8], kept: usize) -> Got
     requires { ⌜ kept ≤ length (now buf) ⌝ }
-    ensures { λ r. ⌜ (kept ≤ r) × (r ≤ length (now (buf .entry))) × (take kept (now (buf .exit)) ≡ take kept (now (buf .entry))) ⌝ }
+    ensures { λ r. ⌜ Fits r (length (now (buf .entry)) - kept) ⌝ }
+    ensures { λ _. ⌜ take kept (now (buf .exit)) ≡ take kept (now (buf .entry)) ⌝ }
 {
     let part = &mut buf[kept..];
-    let got = libc::read(STDIN_FILENO, part);
-    kept + io::count(got, part)
+    let answered = libc::read(STDIN_FILENO, part);
+    reads::given(answered, part)
 }
 
 // Writes out; whether all of it went through. Where it did not, standard error says so, since a program has no exit status.
@@ -64,14 +67,21 @@ fn answer_read(buf: &mut [u8], kept: usize, have: usize, out: &mut [u8]) -> Read
     Read::Part(blocks::answer_block(buf, have, out))
 }
 
-// One turn: reads, and writes the replies to what was read. A failed write ends it.
+// One turn: reads, and writes the replies to what was read. A failed write ends it, and a failed read, which is told; a line that was begun
+// has no reply then: its end was not seen.
 fn one_turn(buf: &mut [u8], out: &mut [u8], kept: usize) -> Turn
     requires { ⌜ (kept ≤ enough) × (enough ≤ length (now buf)) × (replyRoom * length (now buf) ≤ length (now out)) ⌝ }
     requires { ⌜ Unfinished (take kept (now buf)) ⌝ }
     ensures { λ r. ⌜ Left r (now (buf .exit)) ⌝ }
 {
-    let have = fill(buf, kept);
-    match answer_read(buf, kept, have, out) {
+    let Got::Bytes(more) = fill(buf, kept) else {
+        io::write_all(
+            STDERR_FILENO,
+            b"month_lines: the input could not be read to its end\n",
+        );
+        return Turn::Over;
+    };
+    match answer_read(buf, kept, kept + more, out) {
         Read::Last(n) => {
             write_out(&out[..n]);
             Turn::Over

@@ -1,10 +1,12 @@
 -- `month_lines::fill` meets its contract. Assumes nothing.
-use Prim.Native.Nat.{_≤_, _-_}
+use mathlib.Core.Path.{_∙_, subst}
+use Prim.Native.Nat.{ℕ, _≤_, _-_}
 use native.Mathlib.Omega.{arith}
 use borrow.Rule.Slice.PartMut.{take-put}
 use borrow.Author.Needs.{needs}
 use denote.Ref.{now}
 use lib.ListN.{length}
+use Rattle.reads.specs.Given.{Fits}
 use Rattle.month_lines.proofs.fill.Statement.{statement}
 use Rattle.month_lines.proofs.fill.Tie as tie
 
@@ -20,11 +22,8 @@ part-part-end c = search needs
 read-requires : tie.Need-read-requires
 read-requires c κs = search needs
 
-count-requires : tie.Need-count-requires
-count-requires c κs = search needs
-
-add-result : tie.Need-add-result
-add-result c = search needs
+given-requires : tie.Need-given-requires
+given-requires c κs = search needs
 
 same-length : tie.Need-same-length
 same-length c = search needs
@@ -34,17 +33,7 @@ returns c =
     let read = c .before .before .before .before .before .before in
     let a = read .before .before .before .before .args in
     let fits : a .kept ≤ length (now (a .buf)) = omega arith in
-    (omega arith, omega arith, take-put (a .kept) (length (now (a .buf)) - a .kept) (now (a .buf)) (read .read .last .1 .0) fits)
+    (subst (λ (n : ℕ). Fits (c .before .before .given .result) n) (omega arith) (c .before .before .given .ensures .1), take-put (a .kept) (length (now (a .buf)) - a .kept) (now (a .buf)) (read .read .last .1 .0) fits)
 
 pub fill-spec : {M : Type 1} → statement M
-fill-spec =
-    tie.close
-    (tie.spec
-    sub-part
-    part-part-start
-    part-part-end
-    read-requires
-    count-requires
-    add-result
-    same-length
-    returns)
+fill-spec = tie.close (tie.spec sub-part part-part-start part-part-end read-requires given-requires same-length returns)

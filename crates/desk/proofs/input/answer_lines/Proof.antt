@@ -9,11 +9,11 @@ use Rattle.desk.proofs.input.answer_lines.Statement.{statement}
 use Rattle.desk.proofs.input.answer_lines.Tie as tie
 
 abbrev Inv-loop : tie.InvT-loop
-Inv-loop line₀ buf₀ block₀ kept₀ turns₀ line buf block kept turns =
+Inv-loop line₀ buf₀ block₀ kept₀ turns₀ t8 line buf block kept turns =
     (length block ≡ 65536) × (kept ≤ length line) × (length line ≡ length line₀) × (length buf ≡ length buf₀)
 
 abbrev μ-loop : tie.MeasureT-loop
-μ-loop line₀ buf₀ block₀ kept₀ turns₀ line buf block kept turns = turns
+μ-loop line₀ buf₀ block₀ kept₀ turns₀ t8 line buf block kept turns = turns
 
 large-buffer-requires : tie.Need-large-buffer-requires Inv-loop μ-loop
 large-buffer-requires c κs = tt
@@ -27,20 +27,17 @@ slice-aggregate-fill c = omega arith
 fill-requires : tie.Need-fill-requires Inv-loop μ-loop
 fill-requires c κs = tt
 
-array-share-prefix-block : tie.Need-array-share-prefix-block Inv-loop μ-loop
-array-share-prefix-block c = omega arith
+enum-known-read : tie.Need-enum-known-read Inv-loop μ-loop
+enum-known-read c = search needs
 
-slice-aggregate-answer-read : tie.Need-slice-aggregate-answer-read Inv-loop μ-loop
-slice-aggregate-answer-read c =
-    let read = c .before .before in
-    let fits : read .fill .result ≤ length (read .fill .last .0) = omega (arith, read .fill .kept .0, read .fill .ensures) in
-    sym (length-take-le _ _ fits)
+enum-told : tie.Need-enum-told Inv-loop μ-loop
+enum-told c = search needs
 
-answer-read-requires : tie.Need-answer-read-requires Inv-loop μ-loop
-answer-read-requires c κs = omega arith
+slice-aggregate-write-all : tie.Need-slice-aggregate-write-all Inv-loop μ-loop
+slice-aggregate-write-all c = search needs
 
-enum-known-n : tie.Need-enum-known-n Inv-loop μ-loop
-enum-known-n c = search needs
+write-all-requires : tie.Need-write-all-requires Inv-loop μ-loop
+write-all-requires c κs = tt
 
 same-length : tie.Need-same-length Inv-loop μ-loop
 same-length c = omega arith
@@ -50,6 +47,33 @@ same-length-2 c = omega arith
 
 returns : tie.Need-returns Inv-loop μ-loop
 returns c = tt
+
+array-share-prefix-block : tie.Need-array-share-prefix-block Inv-loop μ-loop
+array-share-prefix-block c =
+    let filled = c .before .before .before .before in
+    let fits = rw (c .before .read .given .1) at (filled .fill .ensures) in
+    omega (arith, fits)
+
+slice-aggregate-answer-read : tie.Need-slice-aggregate-answer-read Inv-loop μ-loop
+slice-aggregate-answer-read c =
+    let filled = c .before .before .before .before .before in
+    let fits = rw (c .before .before .read .given .1) at (filled .fill .ensures) in
+    sym (length-take-le _ _ (omega (arith, fits, filled .fill .kept .0)))
+
+answer-read-requires : tie.Need-answer-read-requires Inv-loop μ-loop
+answer-read-requires c κs = omega arith
+
+enum-known-n : tie.Need-enum-known-n Inv-loop μ-loop
+enum-known-n c = search needs
+
+same-length-3 : tie.Need-same-length-3 Inv-loop μ-loop
+same-length-3 c = omega arith
+
+same-length-4 : tie.Need-same-length-4 Inv-loop μ-loop
+same-length-4 c = omega arith
+
+returns-2 : tie.Need-returns-2 Inv-loop μ-loop
+returns-2 c = tt
 
 sub-turns : tie.Need-sub-turns Inv-loop μ-loop
 sub-turns c = omega arith
@@ -63,14 +87,14 @@ loop-again c =
     let left = rw (c .before .n .given .1) at (read .answer-read .ensures) in
     (omega arith, omega (arith, left .1), omega arith, omega arith)
 
-same-length-3 : tie.Need-same-length-3 Inv-loop μ-loop
-same-length-3 c = omega arith
+same-length-5 : tie.Need-same-length-5 Inv-loop μ-loop
+same-length-5 c = omega arith
 
-same-length-4 : tie.Need-same-length-4 Inv-loop μ-loop
-same-length-4 c = omega arith
+same-length-6 : tie.Need-same-length-6 Inv-loop μ-loop
+same-length-6 c = omega arith
 
-returns-2 : tie.Need-returns-2 Inv-loop μ-loop
-returns-2 c = tt
+returns-3 : tie.Need-returns-3 Inv-loop μ-loop
+returns-3 c = tt
 
 pub answer-lines-spec : {M : Type 1} → statement M
 answer-lines-spec =
@@ -82,16 +106,23 @@ answer-lines-spec =
     loop-holds
     slice-aggregate-fill
     fill-requires
+    enum-known-read
+    enum-told
+    slice-aggregate-write-all
+    write-all-requires
+    same-length
+    same-length-2
+    returns
     array-share-prefix-block
     slice-aggregate-answer-read
     answer-read-requires
     enum-known-n
-    same-length
-    same-length-2
-    returns
+    same-length-3
+    same-length-4
+    returns-2
     sub-turns
     loop-less
     loop-again
-    same-length-3
-    same-length-4
-    returns-2)
+    same-length-5
+    same-length-6
+    returns-3)

@@ -1,0 +1,24 @@
+-- `desk::input::fill` meets its contract: a read leaves the block as long as it was. Assumes nothing.
+use mathlib.Core.Path.{subst}
+use Prim.Native.Nat.{ℕ}
+use borrow.Author.Needs.{needs}
+use Rattle.reads.specs.Given.{Fits}
+use Rattle.desk.proofs.input.fill.Statement.{statement}
+use Rattle.desk.proofs.input.fill.Tie as tie
+
+read-requires : tie.Need-read-requires
+read-requires c κs = search needs
+
+given-requires : tie.Need-given-requires
+given-requires c κs = search needs
+
+same-length : tie.Need-same-length
+same-length c = search needs
+
+returns : tie.Need-returns
+returns c =
+    let read = c .before .before .before .before in
+    subst (λ (n : ℕ). Fits (c .given .result) n) (read .read .kept .1 .0) (c .given .ensures .1)
+
+pub fill-spec : {M : Type 1} → statement M
+fill-spec = tie.close (tie.spec read-requires given-requires same-length returns)
