@@ -12,7 +12,7 @@ second desk [WORDS..]     answer the question of the words, or one question a li
 second lines              the line program: a day of five hexadecimal digits a line of the input
 second ask SET [COUNT]    write a set of questions for the desk, COUNT of each random kind
 second facts              check what holds of all months together
-second torn COMMAND..     run a command on the input's bytes, and then on reads that fail
+second failing COMMAND..  run a command on the input's bytes, and then on reads that fail
 ";
 
 const BUFFER: usize = 1 << 16;
@@ -37,7 +37,7 @@ fn main() -> ExitCode {
             Err(_) => return usage(),
         },
         ["facts"] => return check_facts(),
-        ["torn", command, arguments @ ..] => run_torn(command, arguments),
+        ["failing", command, arguments @ ..] => run_failing(command, arguments),
         _ => return usage(),
     };
     match done {
@@ -83,7 +83,7 @@ fn write_set(set: &str, count: u64) -> io::Result<bool> {
 }
 
 /// Returns true, having run a command whose input fails after the bytes of the standard input: no end of it is ever seen.
-fn run_torn(command: &str, arguments: &[&str]) -> io::Result<bool> {
+fn run_failing(command: &str, arguments: &[&str]) -> io::Result<bool> {
     let mut bytes = Vec::new();
     io::stdin().read_to_end(&mut bytes)?;
     let (mut ours, theirs) = UnixStream::pair()?;

@@ -11,10 +11,10 @@ use Rattle.measure.specs.Epoch.{shoushi}
 use Rattle.line_ends.specs.LineEnds.{lineEnd}
 use Rattle.questions.specs.Question.{replyTo}
 use Rattle.replies.specs.ReplyText.{replyText}
-use Rattle.desk.specs.declared.input.Turn.{Turn}
-use Rattle.desk.specs.declared.input.Turn.the-variants.{Begun, Ended, CutShort}
-use Rattle.desk.specs.declared.input.Asked.{Asked}
-use Rattle.desk.specs.declared.input.Asked.the-variants.{Line, Nothing}
+use Rattle.desk.specs.declared.Turn.{Turn}
+use Rattle.desk.specs.declared.Turn.the-variants.{Begun, Ended, CutShort}
+use Rattle.desk.specs.declared.Asked.{Asked}
+use Rattle.desk.specs.declared.Asked.the-variants.{Line, Nothing}
 
 -- one byte more of a line: its end begins the next, and where there is no room the byte is dropped
 unfoldable pub withByte : ℕ → List ℕ → ℕ → List ℕ

@@ -1,17 +1,14 @@
 -- Laws of lines: what is written is the text, and a number's sign.
 -- Assumes nothing.
-use mathlib.Core.Bool.{true, false, false≢true}
 use mathlib.Core.List.{List, [], _∷_}
-use mathlib.Core.Path.{_≡_, _∙_, sym, ap}
-use Prim.Native.Nat.{ℕ, suc}
-use native.Mathlib.Nat.{not-suc-le-zero}
-use borrow.Author.Tests.{ltb-true}
-use lib.IntN.{ℤ, pos, negsuc, natAbs}
-use lib.Signed.{ltZ}
+use mathlib.Core.Path.{_≡_, _∙_, sym, ap, subst}
+use Prim.Native.Nat.{ℕ}
+use lib.IntN.{ℤ, natAbs}
 use lib.ListN.{length}
 use mir.Syntax.{w64}
 use mir.Val.{SFits, ofZ, toZ}
 use mir.Facts.{toZ-ofZ}
+use Rattle.signed.proofs.Signs.{Below, From}
 use Rattle.measure.specs.Row.{over}
 use Rattle.measure.specs.Days.{dayOf, remainderOf, sixtyName}
 use Rattle.kinds.specs.Kind.{numberIn, markIn, kindSaid}
@@ -37,19 +34,17 @@ unfolding monthText
 month-text m n k e f = cc
 
 -- a number's sign
-negative : (z : ℤ) (m : ℕ) → ltZ z (pos 0) ≡ true → m ≡ natAbs z → filled (bytesOf "-%\n") (m ∷ []) ≡ signedText z
-unfolding signedText
-negative (pos n) m e h = absurd (not-suc-le-zero (ltb-true n 0 e))
-negative (negsuc n) m e h = ap (λ (k : ℕ). filled (bytesOf "-%\n") (k ∷ [])) h
-
-positive : (z : ℤ) (m : ℕ) → ltZ z (pos 0) ≡ false → m ≡ natAbs z → filled (bytesOf "%\n") (m ∷ []) ≡ signedText z
-unfolding signedText
-positive (pos n) m e h = ap (λ (k : ℕ). filled (bytesOf "%\n") (k ∷ [])) h
-positive (negsuc n) m e h = absurd (false≢true (sym e))
-
 module _ (z : ℤ) (m : ℕ) (f : SFits w64 z) (h : m ≡ natAbs (toZ w64 (ofZ w64 z))) where
-  pub below-zero : ltZ (toZ w64 (ofZ w64 z)) (toZ w64 (ofZ w64 (pos 0))) ≡ true → filled (bytesOf "-%\n") (m ∷ []) ≡ signedText z
-  below-zero e = negative z m (simp (toZ-ofZ f) at e) (simp (toZ-ofZ f) at h)
+  pub negative-text : Below z → filled (bytesOf "-%\n") (m ∷ []) ≡ signedText z
+  unfolding signedText
+  negative-text b =
+      subst (λ (x : ℤ). m ≡ natAbs x → filled (bytesOf "-%\n") (m ∷ []) ≡ signedText x) (sym (b .is))
+      (ap (λ (k : ℕ). filled (bytesOf "-%\n") (k ∷ [])))
+      (simp (toZ-ofZ f) at h)
 
-  pub from-zero : ltZ (toZ w64 (ofZ w64 z)) (toZ w64 (ofZ w64 (pos 0))) ≡ false → filled (bytesOf "%\n") (m ∷ []) ≡ signedText z
-  from-zero e = positive z m (simp (toZ-ofZ f) at e) (simp (toZ-ofZ f) at h)
+  pub positive-text : From z → filled (bytesOf "%\n") (m ∷ []) ≡ signedText z
+  unfolding signedText
+  positive-text b =
+      subst (λ (x : ℤ). m ≡ natAbs x → filled (bytesOf "%\n") (m ∷ []) ≡ signedText x) (sym (b .is))
+      (ap (λ (k : ℕ). filled (bytesOf "%\n") (k ∷ [])))
+      (simp (toZ-ofZ f) at h)

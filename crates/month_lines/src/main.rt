@@ -8,7 +8,7 @@ use reads::Got;
 ghost use mathlib.Core.Path.{_≡_};
 ghost use Prim.Native.Nat.{_*_, _-_, _≤_};
 ghost use lib.ListN.{length, take};
-ghost use Rattle.reads.specs.Given.{Fits};
+ghost use Rattle.reads.specs.Given.{Within};
 ghost use Rattle.lines.specs.Line.{replyRoom};
 ghost use Rattle.blocks.specs.Block.{enough, Unfinished};
 ghost use Rattle.month_lines.specs.Input.{Left, Told};
@@ -39,7 +39,7 @@ fn reply_buffer() -> [u8; ROOM]
 // Reads once, after the kept bytes, which stay.
 fn fill(buf: &mut [u8], kept: usize) -> Got
     requires { ⌜ kept ≤ length (now buf) ⌝ }
-    ensures { λ r. ⌜ Fits r (length (now (buf .entry)) - kept) ⌝ }
+    ensures { λ r. ⌜ Within r (length (now (buf .entry)) - kept) ⌝ }
     ensures { λ _. ⌜ take kept (now (buf .exit)) ≡ take kept (now (buf .entry)) ⌝ }
 {
     let part = &mut buf[kept..];

@@ -36,7 +36,7 @@ pub enum Reply {
 }
 
 // The longest line that is answered.
-const LONGEST: usize = 255;
+pub const LONGEST: usize = 255;
 
 // The reply to a line: its first word says what is asked, and the rest of what.
 pub fn ask(line: &[u8]) -> Reply

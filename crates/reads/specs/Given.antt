@@ -21,6 +21,6 @@ gotSaid (Bytes n) = bytes n
 gotSaid Failed = failed
 
 -- the bytes lie in a row of so many
-abbrev pub Fits : Got → ℕ → Type 0
-Fits (Bytes n) room = n ≤ room
-Fits Failed room = Unit {0}
+abbrev pub Within : Got → ℕ → Type 0
+Within (Bytes n) room = n ≤ room
+Within Failed room = Unit {0}

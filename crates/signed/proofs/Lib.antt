@@ -1,3 +1,4 @@
 pub mod Integers
+pub mod Signs
 pub mod Sizes
 pub mod Unique

@@ -1,7 +1,8 @@
 -- `line_texts::put_signed` meets its contract. Assumes nothing.
 use borrow.Author.Needs.{needs}
 use denote.Ref.{now}
-use Rattle.line_texts.proofs.LineLaws.{told-so, below-zero, from-zero}
+use Rattle.signed.proofs.Signs.{below-zero, from-zero}
+use Rattle.line_texts.proofs.LineLaws.{told-so, negative-text, positive-text}
 use Rattle.line_texts.proofs.put_signed.Statement.{statement}
 use Rattle.line_texts.proofs.put_signed.Tie as tie
 
@@ -34,7 +35,7 @@ returns c =
     let put = c .before .before in
     let at = put .before .before .before .before in
     let start = at .before .before .before in
-    told-so (now (start .args .row)) (below-zero (start .args .z) _ (start .fits .z) (at .before .magnitude-of .ensures) (at .if1 .taken)) (put .fill .ensures)
+    told-so (now (start .args .row)) (negative-text (start .args .z) _ (start .fits .z) (at .before .magnitude-of .ensures) (below-zero (start .args .z) (start .fits .z) (at .if1 .taken))) (put .fill .ensures)
 
 same-length-2 : tie.Need-same-length-2
 same-length-2 c = search needs
@@ -44,7 +45,7 @@ returns-2 c =
     let put = c .before .before in
     let at = put .before .before .before .before in
     let start = at .before .before .before in
-    told-so (now (start .args .row)) (from-zero (start .args .z) _ (start .fits .z) (at .before .magnitude-of .ensures) (at .if1 .left)) (put .fill2 .ensures)
+    told-so (now (start .args .row)) (positive-text (start .args .z) _ (start .fits .z) (at .before .magnitude-of .ensures) (from-zero (start .args .z) (start .fits .z) (at .if1 .left))) (put .fill2 .ensures)
 
 pub put-signed-spec : {M : Type 1} → statement M
 put-signed-spec =

@@ -6,7 +6,7 @@ use borrow.Rule.Slice.PartMut.{take-put}
 use borrow.Author.Needs.{needs}
 use denote.Ref.{now}
 use lib.ListN.{length}
-use Rattle.reads.specs.Given.{Fits}
+use Rattle.reads.specs.Given.{Within}
 use Rattle.month_lines.proofs.fill.Statement.{statement}
 use Rattle.month_lines.proofs.fill.Tie as tie
 
@@ -33,7 +33,7 @@ returns c =
     let read = c .before .before .before .before .before .before in
     let a = read .before .before .before .before .args in
     let fits : a .kept ≤ length (now (a .buf)) = omega arith in
-    (subst (λ (n : ℕ). Fits (c .before .before .given .result) n) (omega arith) (c .before .before .given .ensures .1), take-put (a .kept) (length (now (a .buf)) - a .kept) (now (a .buf)) (read .read .last .1 .0) fits)
+    (subst (λ (n : ℕ). Within (c .before .before .given .result) n) (omega arith) (c .before .before .given .ensures .1), take-put (a .kept) (length (now (a .buf)) - a .kept) (now (a .buf)) (read .read .last .1 .0) fits)
 
 pub fill-spec : {M : Type 1} → statement M
 fill-spec = tie.close (tie.spec sub-part part-part-start part-part-end read-requires given-requires same-length returns)

@@ -1,19 +1,19 @@
 -- `signed::magnitude_of` meets its contract: one more than a negative number fits, and its opposite is one less than the magnitude.
 -- Assumes nothing.
-use mathlib.Core.Bool.{Bool, true, false, not}
+use mathlib.Core.Bool.{true, false}
 use mathlib.Core.Path.{_≡_, refl, ap, sym, subst, _∙_}
 use Prim.Native.Nat.{ℕ, zero, suc, _+_}
-use native.Mathlib.Nat.{not-suc-le-zero}
 use native.Mathlib.Omega.{arith}
-use lib.Dec.{T, ltb→lt}
+use lib.Dec.{T}
 use lib.IntN.{ℤ, pos, negsuc, negℤ, natAbs, _+ℤ_, _-ℤ_}
-use lib.Signed.{mag, nonNeg, ltZ, ltZ-no, yes-nonNeg, _<ℤ_}
+use lib.Signed.{mag, nonNeg, ltZ}
 use mir.Syntax.{w64}
 use mir.Val.{SFits, ofZ, toZ}
 use mir.Facts.{toZ-ofZ, toZ-pos, fits-natAbs}
 use borrow.Author.Needs.{needs}
 use borrow.Author.Tests.{lt-ltb}
 use Rattle.signed.proofs.Integers.{opposite-mag}
+use Rattle.signed.proofs.Signs.{below-zero, from-zero}
 use Rattle.signed.proofs.magnitude_of.Statement.{statement}
 use Rattle.signed.proofs.magnitude_of.Tie as tie
 
@@ -31,9 +31,8 @@ record Negative (z : ℤ) : Type 0 where
   opposite : pos 0 -ℤ (z +ℤ pos 1) ≡ pos (mag z)
   size : mag z + 1 ≡ natAbs z
 
-negative : (z : ℤ) → z <ℤ pos 0 → SFits w64 z → Negative z
-negative (pos n) h f = absurd (not-suc-le-zero (ltb→lt n 0 (h .lt)))
-negative (negsuc n) h f =
+negative : (n : ℕ) → SFits w64 (negsuc n) → Negative (negsuc n)
+negative n f =
     record {
       up-fits = rw (one-up n) (record { sfits = omega (arith, opposite-mag n, f .sfits) });
       opposite = ap (λ (z : ℤ). pos 0 -ℤ z) (one-up n) ∙ back n;
@@ -43,10 +42,12 @@ negative (negsuc n) h f =
 -- the two arms' tests
 module _ (z : ℤ) (f : SFits w64 z) where
   below : ltZ (toZ w64 (ofZ w64 z)) (toZ w64 (ofZ w64 (pos 0))) ≡ true → Negative z
-  below e = negative z (record { lt = subst T (sym (simp (toZ-ofZ f) at e)) tt }) f
+  below e =
+      let b = below-zero z f e in
+      subst (λ (x : ℤ). SFits w64 x → Negative x) (sym (b .is)) (negative (b .past)) f
 
   above : ltZ (toZ w64 (ofZ w64 z)) (toZ w64 (ofZ w64 (pos 0))) ≡ false → T (nonNeg z)
-  above e = yes-nonNeg {z = z} (ltZ-no {a = z} {b = pos 0} (subst (λ (t : Bool). T (not t)) (sym (simp (toZ-ofZ f) at e)) tt))
+  above e = subst (λ (x : ℤ). T (nonNeg x)) (sym (from-zero z f e .is)) tt
 
 add-result : tie.Need-add-result
 add-result c =

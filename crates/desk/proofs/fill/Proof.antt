@@ -1,10 +1,10 @@
--- `desk::input::fill` meets its contract: a read leaves the block as long as it was. Assumes nothing.
+-- `desk::fill` meets its contract: a read leaves the block as long as it was. Assumes nothing.
 use mathlib.Core.Path.{subst}
 use Prim.Native.Nat.{ℕ}
 use borrow.Author.Needs.{needs}
-use Rattle.reads.specs.Given.{Fits}
-use Rattle.desk.proofs.input.fill.Statement.{statement}
-use Rattle.desk.proofs.input.fill.Tie as tie
+use Rattle.reads.specs.Given.{Within}
+use Rattle.desk.proofs.fill.Statement.{statement}
+use Rattle.desk.proofs.fill.Tie as tie
 
 read-requires : tie.Need-read-requires
 read-requires c κs = search needs
@@ -18,7 +18,7 @@ same-length c = search needs
 returns : tie.Need-returns
 returns c =
     let read = c .before .before .before .before in
-    subst (λ (n : ℕ). Fits (c .given .result) n) (read .read .kept .1 .0) (c .given .ensures .1)
+    subst (λ (n : ℕ). Within (c .given .result) n) (read .read .kept .1 .0) (c .given .ensures .1)
 
 pub fill-spec : {M : Type 1} → statement M
 fill-spec = tie.close (tie.spec read-requires given-requires same-length returns)

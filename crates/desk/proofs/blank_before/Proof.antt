@@ -1,9 +1,9 @@
--- `desk::input::blank_before` meets its contract. Assumes nothing.
+-- `desk::blank_before` meets its contract. Assumes nothing.
 use borrow.Author.Needs.{needs}
 use borrow.Author.Tests.{lt-ltb, le-ltb}
 use native.Mathlib.Omega.{arith}
-use Rattle.desk.proofs.input.blank_before.Statement.{statement}
-use Rattle.desk.proofs.input.blank_before.Tie as tie
+use Rattle.desk.proofs.blank_before.Statement.{statement}
+use Rattle.desk.proofs.blank_before.Tie as tie
 
 keep-requires : tie.Need-keep-requires
 keep-requires c κs = search needs

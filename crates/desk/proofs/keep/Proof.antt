@@ -1,4 +1,4 @@
--- `desk::input::keep` meets its contract: a byte more, as far as there is room. Assumes nothing.
+-- `desk::keep` meets its contract: a byte more, as far as there is room. Assumes nothing.
 use mathlib.Core.List.{List, [], _∷_, _++_}
 use mathlib.Core.Path.{_≡_, _∙_, sym, ap}
 use Prim.Native.Nat.{ℕ, _+_, _≤_, _<_}
@@ -9,8 +9,8 @@ use lib.Seq.{take-at, take-all, length-take-le}
 use denote.Ref.{now}
 use Rattle.measure.specs.Row.{over}
 use Rattle.measure.proofs.Row.{put, written}
-use Rattle.desk.proofs.input.keep.Statement.{statement}
-use Rattle.desk.proofs.input.keep.Tie as tie
+use Rattle.desk.proofs.keep.Statement.{statement}
+use Rattle.desk.proofs.keep.Tie as tie
 
 module _ (line : List ℕ) (k b : ℕ) where
   with-room : k < length line → take (k + 1) (set line k b) ≡ take (length line) (take k line ++ (b ∷ []))

@@ -1,12 +1,12 @@
--- `desk::input::answer_lines` is safe and ends. The measure is the number of turns that are left. Assumes nothing.
+-- `desk::answer_lines` is safe and ends. The measure is the number of turns that are left. Assumes nothing.
 use Prim.Native.Nat.{_≤_}
 use mathlib.Core.Path.{_≡_, sym}
 use lib.ListN.{length}
 use lib.Seq.{length-take-le}
 use native.Mathlib.Omega.{arith}
 use borrow.Author.Needs.{needs}
-use Rattle.desk.proofs.input.answer_lines.Statement.{statement}
-use Rattle.desk.proofs.input.answer_lines.Tie as tie
+use Rattle.desk.proofs.answer_lines.Statement.{statement}
+use Rattle.desk.proofs.answer_lines.Tie as tie
 
 abbrev Inv-loop : tie.InvT-loop
 Inv-loop line₀ buf₀ block₀ kept₀ turns₀ t8 line buf block kept turns =

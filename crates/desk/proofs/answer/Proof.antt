@@ -1,8 +1,8 @@
--- `desk::input::answer` is safe: the line that the arguments make lies in its buffer. Assumes nothing.
+-- `desk::answer` is safe: the line that the arguments make lies in its buffer. Assumes nothing.
 use native.Mathlib.Omega.{arith}
 use borrow.Author.Needs.{needs}
-use Rattle.desk.proofs.input.answer.Statement.{statement}
-use Rattle.desk.proofs.input.answer.Tie as tie
+use Rattle.desk.proofs.answer.Statement.{statement}
+use Rattle.desk.proofs.answer.Tie as tie
 
 arg-count-requires : tie.Need-arg-count-requires
 arg-count-requires c κs = search needs

@@ -1,4 +1,4 @@
--- `desk::input::answer_block` meets its contract: byte by byte, what is kept of a line is what its definition says. Assumes nothing.
+-- `desk::answer_block` meets its contract: byte by byte, what is kept of a line is what its definition says. Assumes nothing.
 use Prim.Native.Nat.{_+_, _-_, _≤_}
 use mathlib.Core.Path.{_≡_, _∙_, sym, ap}
 use mathlib.Core.Bool.{false≢true}
@@ -10,8 +10,8 @@ use lib.Seq.{take-all}
 use native.Mathlib.Omega.{arith}
 use Rattle.desk.specs.Input.{keptAfter}
 use Rattle.desk.proofs.Kept.{ended, goes-on, at-start}
-use Rattle.desk.proofs.input.answer_block.Statement.{statement}
-use Rattle.desk.proofs.input.answer_block.Tie as tie
+use Rattle.desk.proofs.answer_block.Statement.{statement}
+use Rattle.desk.proofs.answer_block.Tie as tie
 
 abbrev Inv-loop : tie.InvT-loop
 Inv-loop block line₀ kept buf₀ n₀ more₀ i₀ line buf n more i =

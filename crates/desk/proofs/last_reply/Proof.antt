@@ -1,11 +1,11 @@
--- `desk::input::last_reply` meets its contract. Assumes nothing.
+-- `desk::last_reply` meets its contract. Assumes nothing.
 use mathlib.Core.Path.{_∙_, sym}
 use native.Mathlib.Omega.{arith}
 use borrow.Author.Needs.{needs}
 use denote.Ref.{now}
 use Rattle.desk.proofs.Kept.{no-line, a-line}
-use Rattle.desk.proofs.input.last_reply.Statement.{statement}
-use Rattle.desk.proofs.input.last_reply.Tie as tie
+use Rattle.desk.proofs.last_reply.Statement.{statement}
+use Rattle.desk.proofs.last_reply.Tie as tie
 
 returns : tie.Need-returns
 returns c = (omega arith, sym (no-line (now (c .before .before .before .args .line)) (c .if1 .taken)))

@@ -1,12 +1,12 @@
--- `desk::input::answer_read` meets its contract: the input ends where nothing was read. Assumes nothing.
+-- `desk::answer_read` meets its contract: the input ends where nothing was read. Assumes nothing.
 use mathlib.Core.Path.{sym}
 use Prim.Native.Nat.{_≤_}
 use native.Mathlib.Omega.{arith}
 use borrow.Author.Needs.{needs}
 use lib.ListN.{length}
 use lib.Seq.{length-take-le}
-use Rattle.desk.proofs.input.answer_read.Statement.{statement}
-use Rattle.desk.proofs.input.answer_read.Tie as tie
+use Rattle.desk.proofs.answer_read.Statement.{statement}
+use Rattle.desk.proofs.answer_read.Tie as tie
 
 sub-last-reply : tie.Need-sub-last-reply
 sub-last-reply c = search needs

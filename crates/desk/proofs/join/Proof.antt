@@ -1,4 +1,4 @@
--- `desk::input::join` meets its contract: the argument goes after the line and its blank, which stay. Assumes nothing.
+-- `desk::join` meets its contract: the argument goes after the line and its blank, which stay. Assumes nothing.
 use mathlib.Core.Path.{_≡_, _∙_, sym, ap}
 use mathlib.Core.List.{List}
 use Prim.Native.Nat.{ℕ, _-_, _≤_}
@@ -8,8 +8,8 @@ use borrow.Author.Needs.{needs}
 use lib.ListN.{length, take}
 use lib.Seq.{take-take, length-take-le}
 use Rattle.desk.specs.Input.{Begins}
-use Rattle.desk.proofs.input.join.Statement.{statement}
-use Rattle.desk.proofs.input.join.Tie as tie
+use Rattle.desk.proofs.join.Statement.{statement}
+use Rattle.desk.proofs.join.Tie as tie
 
 begins : (r from : ℕ) (exit after first : List ℕ) → from ≤ r → from ≤ length after → take from after ≡ first
     → take from exit ≡ take from after → Begins (take r exit) first

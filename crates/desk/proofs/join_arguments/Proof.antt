@@ -1,10 +1,10 @@
--- `desk::input::join_arguments` meets its contract: a turn for each argument after the first. Assumes nothing.
+-- `desk::join_arguments` meets its contract: a turn for each argument after the first. Assumes nothing.
 use Prim.Native.Nat.{_+_, _-_, _≤_}
 use mathlib.Core.Path.{_≡_}
 use lib.ListN.{length}
 use native.Mathlib.Omega.{arith}
-use Rattle.desk.proofs.input.join_arguments.Statement.{statement}
-use Rattle.desk.proofs.input.join_arguments.Tie as tie
+use Rattle.desk.proofs.join_arguments.Statement.{statement}
+use Rattle.desk.proofs.join_arguments.Tie as tie
 
 abbrev Inv-loop : tie.InvT-loop
 Inv-loop line₀ count n₀ i₀ line n i =

@@ -1,12 +1,12 @@
--- `desk::input::answer_line` meets its contract: what is written out lies in the buffer. Assumes nothing.
+-- `desk::answer_line` meets its contract: what is written out lies in the buffer. Assumes nothing.
 use mathlib.Core.Path.{sym}
 use Prim.Native.Nat.{_≤_}
 use native.Mathlib.Omega.{arith}
 use borrow.Author.Needs.{needs}
 use lib.ListN.{length}
 use lib.Seq.{length-take-le}
-use Rattle.desk.proofs.input.answer_line.Statement.{statement}
-use Rattle.desk.proofs.input.answer_line.Tie as tie
+use Rattle.desk.proofs.answer_line.Statement.{statement}
+use Rattle.desk.proofs.answer_line.Tie as tie
 
 answered-requires : tie.Need-answered-requires
 answered-requires c κs = search needs

@@ -1,4 +1,4 @@
--- `desk::input::with_argument` meets its contract. The error is held in bits, and is 0 exactly where they are. Assumes nothing.
+-- `desk::with_argument` meets its contract. The error is held in bits, and is 0 exactly where they are. Assumes nothing.
 use mathlib.Core.Path.{_≡_, _∙_, refl, sym, ap}
 use Prim.Native.Nat.{ℕ, _+_}
 use native.Mathlib.Omega.{arith}
@@ -9,8 +9,8 @@ use mir.Syntax.{w32}
 use mir.Val.{SFits, toZ, ofZ}
 use mir.Facts.{toZ-ofZ}
 use Rattle.desk.specs.Input.{withArgument}
-use Rattle.desk.proofs.input.with_argument.Statement.{statement}
-use Rattle.desk.proofs.input.with_argument.Tie as tie
+use Rattle.desk.proofs.with_argument.Statement.{statement}
+use Rattle.desk.proofs.with_argument.Tie as tie
 
 module _ (from got room : ℕ) where
   none : (z : ℤ) → SFits w32 z → ofZ w32 z ≡ 0 → from + got ≡ withArgument z from got room

@@ -1,4 +1,4 @@
--- `desk::input::answered` meets its contract: what is written is the text of the reply to the line. Assumes nothing.
+-- `desk::answered` meets its contract: what is written is the text of the reply to the line. Assumes nothing.
 use mathlib.Core.Path.{_≡_, _∙_, sym, ap}
 use Prim.Native.Nat.{ℕ}
 use native.Mathlib.Omega.{arith}
@@ -11,8 +11,8 @@ use Rattle.measure.proofs.Row.{written, over-least}
 use Rattle.questions.specs.Told.{toldIn}
 use Rattle.replies.specs.ReplyText.{replyText}
 use Rattle.replies.proofs.Room.{answered-whole}
-use Rattle.desk.proofs.input.answered.Statement.{statement}
-use Rattle.desk.proofs.input.answered.Tie as tie
+use Rattle.desk.proofs.answered.Statement.{statement}
+use Rattle.desk.proofs.answered.Tie as tie
 
 ask-requires : tie.Need-ask-requires
 ask-requires c κs = search needs
