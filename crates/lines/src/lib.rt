@@ -1,22 +1,22 @@
 // The replies to hexadecimal lines: a day in and a month out.
-use day_lines::day_asked;
-use line_ends::line_len;
-use line_ends::rest;
+use frames::DAY_DIGITS;
+use frames::day_asked;
+use frames::line_len;
+use frames::put_month;
+use frames::put_refusal;
+use frames::rest;
 use measure::Answer;
 use measure::BAD_LINE;
 use measure::NO_DAY;
 use measure::SHORT_ROW;
 use months::Reply;
-use reply_lines::put_month;
-use reply_lines::put_refusal;
 ghost use mathlib.Core.Path.{_≡_};
 ghost use Prim.Native.Nat.{_*_, _≤_};
 ghost use lib.ListN.{length};
 ghost use Rattle.measure.specs.Reply.{answerSaid};
 ghost use Rattle.measure.specs.Row.{over, rowAfter};
 ghost use Rattle.measure.specs.Epoch.{shoushi};
-ghost use Rattle.reply_lines.specs.ReplyLine.{lineOf};
-ghost use Rattle.lines.specs.Line.{lineReply, output, replyRoom, outputReply};
+ghost use Rattle.lines.specs.Line.{replyLine, output, replyRoom, outputReply};
 
 pub const REPLY_ROOM: usize = 3;
 
@@ -51,9 +51,9 @@ fn write_replies(input: &[u8], out: &mut [u8]) -> usize
 
 // The reply to one line, at the row's start; how many bytes it has.
 fn put_reply(line: &[u8], out: &mut [u8]) -> usize
-    requires { ⌜ length (lineOf (lineReply shoushi (now line))) ≤ length (now out) ⌝ }
-    ensures { λ r. ⌜ r ≡ length (lineOf (lineReply shoushi (now (line .entry)))) ⌝ }
-    ensures { λ _. ⌜ now (out .exit) ≡ over (lineOf (lineReply shoushi (now (line .entry)))) (now (out .entry)) ⌝ }
+    requires { ⌜ length (replyLine shoushi (now line)) ≤ length (now out) ⌝ }
+    ensures { λ r. ⌜ r ≡ length (replyLine shoushi (now (line .entry))) ⌝ }
+    ensures { λ _. ⌜ now (out .exit) ≡ over (replyLine shoushi (now (line .entry))) (now (out .entry)) ⌝ }
 {
     let Answer::Number(day) = day_asked(line) else {
         return put_refusal(BAD_LINE, out);
@@ -61,5 +61,5 @@ fn put_reply(line: &[u8], out: &mut [u8]) -> usize
     let Reply::Month(month) = months::month_of(day) else {
         return put_refusal(NO_DAY, out);
     };
-    put_month(month, out)
+    put_month(month, DAY_DIGITS, out)
 }

@@ -23,12 +23,13 @@ use Rattle.months.specs.Month.{MonthOfDay, dayReply}
 use Rattle.year_rows.specs.Records.{yearRoom, recordAt, recordsOf}
 use Rattle.lists.specs.Lists.{listReply}
 use Rattle.months.proofs.Reach.{list-most}
+use Rattle.months.proofs.Sizes.{number-most}
 use Rattle.record_bytes.specs.Bytes.{bytesOf}
 use Rattle.record_bytes.proofs.ReadBack.{numbersRead, Small, small-append, bytes-back}
 use Rattle.viewer.specs.Told.{dayTold, countTold}
 use Rattle.viewer.specs.declared.Day.{Day}
 use Rattle.viewer.specs.declared.Count.{Count}
-use Rattle.viewer.proofs.Fitting.{number-small, ReplyFits, reply-fits}
+use Rattle.viewer.proofs.Fitting.{ReplyFits, reply-fits}
 use Rattle.viewer.proofs.YearReply.{no-year, no-room, listed}
 
 -- what a struct says
@@ -108,7 +109,7 @@ module _ (n : ℕ) (year : n ≤ lastYear) where
         omega (arith, figures, rises-weakly (c .first) (first-rises c shoushi-lawful) l 12_368 (omega (arith, list-most n year))),
         (
           omega (arith, shoushi-lawful .month-most l),
-          (omega (arith, number-small n p), (omega (arith, mark-small n p), tt)),
+          (omega (arith, number-most (calendar shoushi) n p), (omega (arith, mark-small n p), tt)),
         ),
       )
 

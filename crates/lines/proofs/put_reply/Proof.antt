@@ -1,5 +1,6 @@
 -- `lines::put_reply` meets its contract. Assumes nothing.
-use mathlib.Core.Path.{_≡_, _∙_, sym, ap}
+use mathlib.Core.Path.{_≡_, _∙_, sym, ap, subst}
+use mathlib.Core.List.{_++_}
 use native.Mathlib.Omega.{arith}
 use borrow.Author.Needs.{needs}
 use denote.Ref.{now}
@@ -7,11 +8,12 @@ use lib.ListN.{length}
 use Rattle.measure.specs.Reply.{Reply, answer, refused, noDay, badLine, answerSaid}
 use Rattle.measure.specs.Epoch.{shoushi}
 use Rattle.months.specs.Month.{MonthOfDay, monthSaid, replySaid}
-use Rattle.day_lines.specs.DayLine.{dayAsked}
-use Rattle.reply_lines.specs.ReplyLine.{lineOf}
-use Rattle.reply_lines.proofs.LineLaws.{month-length}
-use Rattle.lines.specs.Line.{lineReply}
-use Rattle.lines.proofs.LineLaws.{bad-line, asked-reply, outside-day, refusal-length}
+use Rattle.frames.specs.DayLine.{dayDigits, dayAsked}
+use Rattle.frames.specs.MonthLine.{lineOf}
+use Rattle.frames.proofs.MonthLineLaws.{month-line-length, refusal-line-length}
+use Rattle.frames.proofs.FitLaws.{LineFits}
+use Rattle.lines.specs.Line.{lineReply, replyLine}
+use Rattle.lines.proofs.LineLaws.{bad-line, asked-reply, outside-day, line-fits, written-as}
 use Rattle.lines.proofs.put_reply.Statement.{statement}
 use Rattle.lines.proofs.put_reply.Tie as tie
 
@@ -20,7 +22,7 @@ bad : (c : tie.After-enum-told) → lineReply shoushi (now (c .before .before .b
 bad c = bad-line shoushi _ _ (sym (c .before .before .day-asked .ensures) ∙ ap answerSaid (c .enum-told .given .1))
 
 -- a day
-day : (c : tie.After-known-told) → dayAsked (now (c .before .before .before .before .before .before .args .line)) ≡ answer (c .before .day .given .0 .0)
+day : (c : tie.After-known-told) → dayAsked dayDigits (now (c .before .before .before .before .before .before .args .line)) ≡ answer (c .before .day .given .0 .0)
 day c = sym (c .before .before .before .day-asked .ensures) ∙ ap answerSaid (c .before .day .given .1)
 
 -- outside the calendar
@@ -47,15 +49,18 @@ enum-told : tie.Need-enum-told
 enum-told c = search needs
 
 put-refusal-requires : tie.Need-put-refusal-requires
-put-refusal-requires c κs = omega (arith, ap (λ (r : Reply MonthOfDay). length (lineOf r)) (bad (c .before)), refusal-length badLine)
+put-refusal-requires c κs =
+    omega (arith, ap length (written-as shoushi _ _ (bad (c .before))), refusal-line-length dayDigits badLine)
 
 same-length : tie.Need-same-length
 same-length c = search needs
 
 returns : tie.Need-returns
+unfolding lineOf
 returns c =
     let put = c .before .before in
-    rw (bad (put .before .before)) (put .put-refusal .ensures .0 ∙ sym (refusal-length badLine), put .put-refusal .ensures .1)
+    rw (written-as shoushi _ _ (bad (put .before .before)))
+    (put .put-refusal .ensures .0 ∙ sym (refusal-line-length dayDigits badLine), put .put-refusal .ensures .1)
 
 month-of-requires : tie.Need-month-of-requires
 month-of-requires c κs = search needs
@@ -67,26 +72,36 @@ enum-told-2 : tie.Need-enum-told-2
 enum-told-2 c = search needs
 
 put-refusal-requires-2 : tie.Need-put-refusal-requires-2
-put-refusal-requires-2 c κs = omega (arith, ap (λ (r : Reply MonthOfDay). length (lineOf r)) (outside (c .before)), refusal-length noDay)
+put-refusal-requires-2 c κs =
+    omega (arith, ap length (written-as shoushi _ _ (outside (c .before))), refusal-line-length dayDigits noDay)
 
 same-length-2 : tie.Need-same-length-2
 same-length-2 c = search needs
 
 returns-2 : tie.Need-returns-2
+unfolding lineOf
 returns-2 c =
     let put = c .before .before in
-    rw (outside (put .before .before)) (put .put-refusal2 .ensures .0 ∙ sym (refusal-length noDay), put .put-refusal2 .ensures .1)
+    rw (written-as shoushi _ _ (outside (put .before .before)))
+    (put .put-refusal2 .ensures .0 ∙ sym (refusal-line-length dayDigits noDay), put .put-refusal2 .ensures .1)
 
 put-month-requires : tie.Need-put-month-requires
-put-month-requires c κs = omega (arith, ap (λ (r : Reply MonthOfDay). length (lineOf r)) (month (c .before)), month-length (monthSaid (c .before .before .month .given .0 .0)))
+put-month-requires c κs =
+    let m = monthSaid (c .before .before .month .given .0 .0) in (
+      omega (arith, ap length (written-as shoushi _ _ (month (c .before))), month-line-length dayDigits m),
+      subst (LineFits dayDigits) (month (c .before)) (line-fits _),
+    )
 
 same-length-3 : tie.Need-same-length-3
 same-length-3 c = search needs
 
 returns-3 : tie.Need-returns-3
+unfolding lineOf
 returns-3 c =
     let put = c .before .before in
-    rw (month (put .before .before)) (put .put-month .ensures .0 ∙ sym (month-length _), put .put-month .ensures .1)
+    let m = monthSaid (put .before .before .before .month .given .0 .0) in
+    rw (written-as shoushi _ _ (month (put .before .before)))
+    (put .put-month .ensures .0 ∙ sym (month-line-length dayDigits m), put .put-month .ensures .1)
 
 pub put-reply-spec : {M : Type 1} → statement M
 put-reply-spec =

@@ -9,7 +9,7 @@ use lib.ListN.{length, take, length-take, length-drop}
 use lib.Seq.{length-take-le}
 use Rattle.measure.specs.Row.{over}
 use Rattle.measure.specs.Epoch.{shoushi}
-use Rattle.line_ends.proofs.LineLaws.{length-most, rest-length}
+use Rattle.frames.proofs.LineEndLaws.{length-most, rest-length}
 use Rattle.lines.specs.Line.{output, replyRoom}
 use Rattle.lines.proofs.LineLaws.{room-left, no-line, turn}
 use Rattle.lines.proofs.write_replies.Statement.{statement}

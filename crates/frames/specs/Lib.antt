@@ -1,0 +1,4 @@
+pub mod LineEnds
+pub mod Digits
+pub mod DayLine
+pub mod MonthLine

@@ -1,0 +1,22 @@
+-- How large the number and the leap mark of a month are, in any calendar.
+-- Assumes nothing.
+use Prim.Native.Nat.{ℕ, _≤_}
+use native.Mathlib.Omega.{arith}
+use Rattle.measure.proofs.Choice.{if-cases}
+use Rattle.kinds.specs.Kind.{Kind, ordinary, leap, numberIn, markIn}
+use Rattle.month_law.specs.Calendar.{Calendar, nameOf, leapAt, numberAt}
+use Rattle.months.specs.Month.{kindAt}
+
+abbrev Small : Kind → Type 0
+Small k = (numberIn k ≤ 12) × (markIn k ≤ 1)
+
+module _ (c : Calendar) (n p : ℕ) where
+  pub number-most : numberAt c n p ≤ 12
+  unfolding numberAt nameOf
+  number-most = omega arith
+
+  pub kind-most : Small (kindAt c n p)
+  unfolding kindAt
+  kind-most =
+      if-cases Small (leap (numberAt c n p)) (ordinary (numberAt c n p)) (leapAt c n p) (λ _. (number-most, omega arith))
+      (λ _. (number-most, omega arith))
