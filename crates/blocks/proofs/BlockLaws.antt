@@ -7,30 +7,29 @@ use mathlib.Core.Path.{_≡_, _∙_, refl, sym, ap}
 use mathlib.Core.List.{List, [], _∷_, _++_, append-assoc, append-nil}
 use Prim.Native.Nat.{ℕ, zero, suc, _-_, _≤_, _<_}
 use native.Mathlib.Omega.{arith}
-use borrow.Author.Tests.{ne-eqb}
 use lib.ListN.{length, getD, take, drop}
 use lib.Seq.{take-all, take-suc, split-at, length-take-le}
 use Rattle.measure.specs.Choice.{if_then_else_, _=?_}
 use Rattle.measure.specs.Reply.{refused, badLine}
 use Rattle.measure.specs.Epoch.{Epoch}
 use Rattle.measure.proofs.Choice.{lt-or-ge}
-use Rattle.line_ends.specs.LineEnds.{lineEnd, lineLength}
-use Rattle.day_lines.specs.DayLine.{dayAsked}
-use Rattle.reply_lines.specs.ReplyLine.{lineOf}
-use Rattle.lines.specs.Line.{lineReply, lastLine, outputFrom, output}
+use Rattle.frames.specs.LineEnds.{lineEnd, lineLength}
+use Rattle.frames.specs.DayLine.{dayDigits}
+use Rattle.frames.specs.MonthLine.{lineOf}
+use Rattle.frames.proofs.DayLineLaws.{other-length}
+use Rattle.lines.specs.Line.{lineReply, replyLine, lastLine, outputFrom, output}
 use Rattle.lines.proofs.LineLaws.{bad-line}
 use Rattle.blocks.specs.Block.{enough, Unfinished}
 
-long : (e : Epoch) (line : List ℕ) → 5 < length line → lineReply e line ≡ refused badLine
-unfolding dayAsked
-long e line h = bad-line e line badLine (rw (ne-eqb (length line) 5 (λ k. omega arith)))
+long : (e : Epoch) (line : List ℕ) → dayDigits < length line → lineReply e line ≡ refused badLine
+long e line h = bad-line e line badLine (other-length dayDigits line (λ k. omega arith))
 
 take-of-take : (n : ℕ) (a b : List ℕ) → take n (take n a ++ b) ≡ take n (a ++ b)
 take-of-take zero a b = refl
 take-of-take (suc n) [] b = refl
 take-of-take (suc n) (x ∷ a) b = ap (λ (l : List ℕ). x ∷ l) (take-of-take n a b)
 
-goes-on : (b : ℕ) (bs : List ℕ) → Unfinished (b ∷ bs) → ((b =? lineEnd) ≡ false) × Unfinished bs
+pub goes-on : (b : ℕ) (bs : List ℕ) → Unfinished (b ∷ bs) → ((b =? lineEnd) ≡ false) × Unfinished bs
 unfolding lineLength
 goes-on b bs h = by (b =? lineEnd) h
   where
@@ -55,10 +54,14 @@ module _ (e : Epoch) where
       ∙ sym (long e (take enough line) (omega (arith, length-take-le enough line (omega arith)))))
       (lt-or-ge (length line) 7)
 
+  line-six : (line : List ℕ) → replyLine e line ≡ replyLine e (take enough line)
+  unfolding replyLine
+  line-six line = ap (lineOf dayDigits) (reply-six line)
+
   last-six : (begun : List ℕ) → lastLine e begun ≡ lastLine e (take enough begun)
   unfolding lastLine
   last-six [] = refl
-  last-six (b ∷ bs) = ap lineOf (reply-six (b ∷ bs))
+  last-six (b ∷ bs) = line-six (b ∷ bs)
 
   from-six : (begun later : List ℕ) → outputFrom e begun later ≡ outputFrom e (take enough begun) later
   unfolding outputFrom
@@ -70,9 +73,9 @@ module _ (e : Epoch) where
       ∙ sym (from-six (take enough begun ++ (b ∷ [])) bs))
     where
       by : (t : Bool) → outputFrom e (begun ++ (b ∷ [])) bs ≡ outputFrom e (take enough begun ++ (b ∷ [])) bs
-          → (if t then lineOf (lineReply e begun) ++ outputFrom e [] bs else outputFrom e (begun ++ (b ∷ [])) bs)
-          ≡ (if t then lineOf (lineReply e (take enough begun)) ++ outputFrom e [] bs else outputFrom e (take enough begun ++ (b ∷ [])) bs)
-      by true h = ap (λ r. lineOf r ++ outputFrom e [] bs) (reply-six begun)
+          → (if t then replyLine e begun ++ outputFrom e [] bs else outputFrom e (begun ++ (b ∷ [])) bs)
+          ≡ (if t then replyLine e (take enough begun) ++ outputFrom e [] bs else outputFrom e (take enough begun ++ (b ∷ [])) bs)
+      by true h = ap (λ (l : List ℕ). l ++ outputFrom e [] bs) (line-six begun)
       by false h = h
 
   from-begun : (before begun later : List ℕ) → Unfinished begun → outputFrom e before (begun ++ later) ≡ outputFrom e (before ++ begun) later
@@ -99,11 +102,11 @@ module _ (e : Epoch) where
           → outputFrom e [] (bs ++ (lineEnd ∷ later)) ≡ outputFrom e [] (bs ++ (lineEnd ∷ [])) ++ outputFrom e [] later
           → outputFrom e (before ++ (b ∷ [])) (bs ++ (lineEnd ∷ later))
           ≡ outputFrom e (before ++ (b ∷ [])) (bs ++ (lineEnd ∷ [])) ++ outputFrom e [] later
-          → (if t then lineOf (lineReply e before) ++ outputFrom e [] (bs ++ (lineEnd ∷ later))
+          → (if t then replyLine e before ++ outputFrom e [] (bs ++ (lineEnd ∷ later))
           else outputFrom e (before ++ (b ∷ [])) (bs ++ (lineEnd ∷ later)))
-          ≡ (if t then lineOf (lineReply e before) ++ outputFrom e [] (bs ++ (lineEnd ∷ []))
+          ≡ (if t then replyLine e before ++ outputFrom e [] (bs ++ (lineEnd ∷ []))
           else outputFrom e (before ++ (b ∷ [])) (bs ++ (lineEnd ∷ []))) ++ outputFrom e [] later
-      by true h g = ap (λ (l : List ℕ). lineOf (lineReply e before) ++ l) h ∙ sym (append-assoc (lineOf (lineReply e before)) _ _)
+      by true h g = ap (λ (l : List ℕ). replyLine e before ++ l) h ∙ sym (append-assoc (replyLine e before) _ _)
       by false h g = g
 
   -- whole lines are answered by themselves

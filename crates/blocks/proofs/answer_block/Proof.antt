@@ -1,12 +1,16 @@
 -- `blocks::answer_block` meets its contract. Assumes nothing.
-use mathlib.Core.Path.{sym}
-use Prim.Native.Nat.{_≤_}
+use mathlib.Core.List.{List}
+use mathlib.Core.Path.{_≡_, _∙_, sym, ap}
+use Prim.Native.Nat.{ℕ, _≤_}
 use native.Mathlib.Omega.{arith}
 use borrow.Author.Needs.{needs}
 use denote.Ref.{now}
-use lib.ListN.{length}
+use lib.ListN.{length, take}
 use lib.Seq.{length-take-le}
-use Rattle.blocks.proofs.Kept.{unfinished, answered}
+use Rattle.measure.specs.Row.{over}
+use Rattle.measure.specs.Epoch.{shoushi}
+use Rattle.lines.specs.Line.{output}
+use Rattle.blocks.proofs.Kept.{whole, lines-are, kept-is, kept-long}
 use Rattle.blocks.proofs.answer_block.Statement.{statement}
 use Rattle.blocks.proofs.answer_block.Tie as tie
 
@@ -15,7 +19,7 @@ in-block : (c : tie.After-whole-lines) → c .whole-lines .result ≤ c .before 
 in-block c =
     let a = c .before .before .before .before .args in
     let fits : a .have ≤ length (now (a .buf)) = omega arith in
-    omega (arith, c .whole-lines .ensures .within, length-take-le (a .have) (now (a .buf)) fits)
+    omega (arith, whole (take (a .have) (now (a .buf))) .within, length-take-le (a .have) (now (a .buf)) fits, c .whole-lines .ensures)
 
 in-buffer : (c : tie.After-whole-lines) → c .whole-lines .result ≤ length (now (c .before .before .before .before .args .buf))
 in-buffer c = omega (arith, in-block c)
@@ -66,15 +70,17 @@ returns c =
     let cut = lines .before .before .before in
     let a = cut .before .before .before .before .args in
     let buf = now (a .buf) in
-    let after = c .before .before .shift .last .0 in
-    let whole = cut .whole-lines .result in
+    let n = cut .whole-lines .result in
     let kept = least .least .result in
-    let moved = c .before .before .shift .ensures in (
-      (omega arith, lines .answer-lines .ensures .0),
+    let fits : a .have ≤ length buf = omega arith in
+    let are = lines-are buf (a .have) n kept fits (cut .whole-lines .ensures) (least .least .ensures) in
+    let is = kept-is buf (a .have) n kept fits (cut .whole-lines .ensures) (least .least .ensures) in
+    let long = kept-long buf (a .have) n kept fits (cut .whole-lines .ensures) (least .least .ensures) in
+    let count = lines .answer-lines .ensures .0 ∙ ap (λ (l : List ℕ). length (output shoushi l)) are in (
+      λ i. record { written = count i; kept = long i },
       (
-        answered buf after (a .have) whole kept (omega arith) (cut .whole-lines .ensures) (least .least .ensures) moved
-            (lines .answer-lines .last .1 .0) (lines .answer-lines .result) (lines .answer-lines .ensures .1),
-        unfinished buf after (a .have) whole kept (omega arith) (cut .whole-lines .ensures) (least .least .ensures) moved,
+        lines .answer-lines .ensures .1 ∙ ap (λ (l : List ℕ). over (output shoushi l) (now (a .out))) are,
+        c .before .before .shift .ensures ∙ ap (λ (l : List ℕ). over l buf) is,
       ),
     )
 

@@ -5,8 +5,9 @@ use Prim.Native.Nat.{ℕ, _+_, _-_, _≤_, _<_}
 use native.Mathlib.Numerals.{add-one}
 use native.Mathlib.Omega.{arith}
 use denote.Ref.{now}
-use lib.ListN.{length, getD, take, drop, length-set, length-drop}
-use lib.Seq.{take-suc, take-suc-set, drop-set-lt, drop-drop, getD-drop}
+use lib.ListN.{length, getD, take, drop, length-set, length-drop, take-append-drop}
+use lib.Seq.{take-suc, take-suc-set, drop-set-lt, drop-drop, getD-drop, length-take-le}
+use Rattle.measure.specs.Row.{over}
 use Rattle.blocks.proofs.shift.Statement.{statement}
 use Rattle.blocks.proofs.shift.Tie as tie
 
@@ -69,13 +70,20 @@ same-length : tie.Need-same-length Inv-loop μ-loop
 same-length c = omega arith
 
 returns : tie.Need-returns Inv-loop μ-loop
+unfolding over
 returns c =
     let at = c .before in
     let a = at .before .args in
+    let buf = at .loop .buf in
+    let moved = take (a .k) (drop (a .at) (now (a .buf))) in
     let all : at .loop .i ≡ a .k = omega arith in
-    ap (λ (j : ℕ). take j (at .loop .buf)) (sym all)
-    ∙ at .loop .inv .2
-    ∙ ap (λ (j : ℕ). take j (drop (a .at) (now (a .buf)))) all
+    let room : a .k ≤ length (drop (a .at) (now (a .buf))) = simp length-drop (omega arith) in
+    let long : a .k ≡ length moved = sym (length-take-le (a .k) (drop (a .at) (now (a .buf))) room) in
+    sym (take-append-drop (at .loop .i) buf)
+    ∙ ap (λ (l : List ℕ). l ++ drop (at .loop .i) buf) (at .loop .inv .2)
+    ∙ ap (λ (l : List ℕ). take (at .loop .i) (drop (a .at) (now (a .buf))) ++ l) (at .loop .inv .3)
+    ∙ ap (λ (j : ℕ). take j (drop (a .at) (now (a .buf))) ++ drop j (now (a .buf))) all
+    ∙ ap (λ (j : ℕ). moved ++ drop j (now (a .buf))) long
 
 pub shift-spec : {M : Type 1} → statement M
 shift-spec =

@@ -6,8 +6,9 @@ use borrow.Author.Tests.{ne-eqb}
 use denote.Ref.{now}
 use lib.ListN.{length, drop, length-drop}
 use lib.Seq.{drop-length}
-use Rattle.line_ends.specs.LineEnds.{lineLength}
-use Rattle.line_ends.proofs.LineLaws.{length-step}
+use Rattle.frames.specs.LineEnds.{lineLength}
+use Rattle.frames.proofs.LineEndLaws.{length-step}
+use Rattle.blocks.proofs.Kept.{whole-is}
 use Rattle.blocks.proofs.whole_lines.Statement.{statement}
 use Rattle.blocks.proofs.whole_lines.Tie as tie
 
@@ -32,7 +33,7 @@ shared-slice-read-if1 c = omega arith
 returns : tie.Need-returns Inv-loop μ-loop
 returns c =
     let at = c .before .before .before in
-    record { within = at .loop .inv .0; ended = λ _. c .if1 .taken; unfinished = at .loop .inv .1 }
+    whole-is _ _ (record { within = at .loop .inv .0; ended = λ _. c .if1 .taken; unfinished = at .loop .inv .1 })
 
 sub-n : tie.Need-sub-n Inv-loop μ-loop
 sub-n c = omega arith
@@ -54,7 +55,7 @@ returns-2 : tie.Need-returns-2 Inv-loop μ-loop
 returns-2 c =
     let at = c .before in
     let none : at .loop .n ≡ 0 = omega arith in
-    record { within = omega arith; ended = λ h. absurd (omega arith); unfinished = rw none at (at .loop .inv .1) }
+    sym none ∙ whole-is _ _ (record { within = at .loop .inv .0; ended = λ h. absurd (omega arith); unfinished = at .loop .inv .1 })
 
 pub whole-lines-spec : {M : Type 1} → statement M
 whole-lines-spec =
