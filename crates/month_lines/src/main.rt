@@ -8,10 +8,11 @@ use reads::Got;
 ghost use mathlib.Core.Path.{_≡_};
 ghost use Prim.Native.Nat.{_*_, _-_, _≤_};
 ghost use lib.ListN.{length, take};
+ghost use Rattle.measure.specs.Row.{over};
 ghost use Rattle.reads.specs.Given.{Within};
 ghost use Rattle.lines.specs.Line.{replyRoom};
 ghost use Rattle.blocks.specs.Block.{enough, Unfinished};
-ghost use Rattle.month_lines.specs.Input.{Left, Told};
+ghost use Rattle.month_lines.specs.Input.{readOf, writtenFor, keptFor, Left};
 
 // What was read: no more, so that the last line was answered in so many bytes; or a block, which was answered.
 enum Read {
@@ -59,7 +60,9 @@ fn write_out(out: &[u8]) -> bool {
 // The first `have` bytes answered, of which so many were kept. Where no more were read, they are the last line.
 fn answer_read(buf: &mut [u8], kept: usize, have: usize, out: &mut [u8]) -> Read
     requires { ⌜ (kept ≤ have) × (have ≤ length (now buf)) × (replyRoom * length (now buf) ≤ length (now out)) ⌝ }
-    ensures { λ r. ⌜ Told r (take have (now (buf .entry))) kept (now (buf .exit)) (now (out .exit)) ⌝ }
+    ensures { λ r. ⌜ r ≡ readOf kept (take have (now (buf .entry))) ⌝ }
+    ensures { λ _. ⌜ now (out .exit) ≡ over (writtenFor kept (take have (now (buf .entry)))) (now (out .entry)) ⌝ }
+    ensures { λ _. ⌜ now (buf .exit) ≡ over (keptFor kept (take have (now (buf .entry)))) (now (buf .entry)) ⌝ }
 {
     if have == kept {
         return Read::Last(blocks::answer_lines(&buf[..have], out));
@@ -72,7 +75,7 @@ fn answer_read(buf: &mut [u8], kept: usize, have: usize, out: &mut [u8]) -> Read
 fn one_turn(buf: &mut [u8], out: &mut [u8], kept: usize) -> Turn
     requires { ⌜ (kept ≤ enough) × (enough ≤ length (now buf)) × (replyRoom * length (now buf) ≤ length (now out)) ⌝ }
     requires { ⌜ Unfinished (take kept (now buf)) ⌝ }
-    ensures { λ r. ⌜ Left r (now (buf .exit)) ⌝ }
+    ensures { λ r. ⌜ Left r (take kept (now (buf .entry))) (now (buf .exit)) ⌝ }
 {
     let Got::Bytes(more) = fill(buf, kept) else {
         io::write_all(

@@ -1,11 +1,14 @@
 -- `month_lines::answer_read` meets its contract. Assumes nothing.
-use mathlib.Core.Path.{_≡_, sym}
-use Prim.Native.Nat.{_≤_}
+use mathlib.Core.Path.{_≡_, _∙_, sym, ap}
 use native.Mathlib.Omega.{arith}
 use borrow.Author.Needs.{needs}
+use borrow.Author.Tests.{eq-eqb, ne-eqb}
 use denote.Ref.{now}
 use lib.ListN.{length, take}
 use lib.Seq.{length-take-le}
+use Rattle.measure.specs.Row.{over}
+use Rattle.month_lines.specs.Input.{readOf, writtenFor, keptFor}
+use Rattle.month_lines.specs.declared.Read.the-variants.{Last, Part}
 use Rattle.month_lines.proofs.answer_read.Statement.{statement}
 use Rattle.month_lines.proofs.answer_read.Tie as tie
 
@@ -30,12 +33,13 @@ same-length-2 c = search needs
 
 -- no more was read: what was kept is the last line
 returns : tie.Need-returns
+unfolding over readOf writtenFor keptFor
 returns c =
     let told = c .before .before in
-    let a = told .before .before .before .before .before .before .args in (
-      omega (arith, length-take-le (a .have) (now (a .buf)) (omega arith)),
-      omega (arith, told .answer-lines .kept .1 .0, told .answer-lines .ensures .0),
-      told .answer-lines .ensures .1,
+    let a = told .before .before .before .before .before .before .args in
+    let none : length (take (a .have) (now (a .buf))) ≡ a .kept = length-take-le (a .have) (now (a .buf)) (omega arith) ∙ omega arith in (
+      simp (eq-eqb _ _ none) (ap Last (told .answer-lines .ensures .0)),
+      (simp (eq-eqb _ _ none) (told .answer-lines .ensures .1), simp (eq-eqb _ _ none)),
     )
 
 answer-block-requires : tie.Need-answer-block-requires
@@ -48,14 +52,14 @@ same-length-4 : tie.Need-same-length-4
 same-length-4 c = search needs
 
 returns-2 : tie.Need-returns-2
+unfolding readOf writtenFor keptFor
 returns-2 c =
     let told = c .before .before .before .before in
-    let a = told .before .before .before .before .before .before .args in (
-      omega (arith, length-take-le (a .have) (now (a .buf)) (omega arith)),
-      omega arith,
-      omega arith,
-      told .answer-block .ensures .1 .0,
-      told .answer-block .ensures .1 .1,
+    let a = told .before .before .before .before .before .before .args in
+    let sized : length (take (a .have) (now (a .buf))) ≡ a .have = length-take-le (a .have) (now (a .buf)) (omega arith) in
+    let more : ¬ (length (take (a .have) (now (a .buf))) ≡ a .kept) = λ h. omega arith in (
+      simp (ne-eqb _ _ more) (ap Part (told .answer-block .ensures .0)),
+      (simp (ne-eqb _ _ more) (told .answer-block .ensures .1 .0), simp (ne-eqb _ _ more) (told .answer-block .ensures .1 .1)),
     )
 
 pub answer-read-spec : {M : Type 1} → statement M

@@ -4,8 +4,9 @@ use Prim.Native.Nat.{_≤_}
 use native.Mathlib.Omega.{arith}
 use borrow.Author.Needs.{needs}
 use lib.ListN.{length, take}
-use Rattle.line_ends.specs.LineEnds.{lineLength}
+use Rattle.frames.specs.LineEnds.{lineLength}
 use Rattle.blocks.specs.Block.{enough, Unfinished}
+use Rattle.month_lines.proofs.ReadLaws.{left-most, left-unfinished}
 use Rattle.month_lines.proofs.main.Statement.{statement}
 use Rattle.month_lines.proofs.main.Tie as tie
 
@@ -54,7 +55,7 @@ loop-again : tie.Need-loop-again Inv-loop μ-loop
 loop-again c =
     let turn = c .before .before .before .before .before in
     let left = rw (c .before .n .given .1) at (turn .one-turn .ensures) in
-    (omega arith, omega arith, left .0, left .1)
+    (omega arith, omega arith, left-most _ _ _ left, left-unfinished _ _ _ left)
 
 returns-2 : tie.Need-returns-2 Inv-loop μ-loop
 returns-2 c = tt

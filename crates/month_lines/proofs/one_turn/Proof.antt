@@ -1,10 +1,9 @@
 -- `month_lines::one_turn` meets its contract. Assumes nothing.
-use mathlib.Core.Path.{sym}
-use Prim.Native.Nat.{_≤_}
+use mathlib.Core.Path.{_∙_, refl, sym}
 use native.Mathlib.Omega.{arith}
 use borrow.Author.Needs.{needs}
-use lib.ListN.{length}
 use lib.Seq.{length-take-le}
+use Rattle.month_lines.proofs.ReadLaws.{last-within, part-within, part-left}
 use Rattle.month_lines.proofs.one_turn.Statement.{statement}
 use Rattle.month_lines.proofs.one_turn.Tie as tie
 
@@ -47,14 +46,13 @@ enum-known-n c = search needs
 slice-reshare-prefix-write-out : tie.Need-slice-reshare-prefix-write-out
 slice-reshare-prefix-write-out c =
     let read = c .before .before .before .before .before .before .before in
-    let told = rw (c .before .n .given .1) at (read .answer-read .ensures) in
-    omega (arith, told .1)
+    last-within _ _ _ _ (read .answer-read .ensures .1 .0) _ (sym (c .before .n .given .1) ∙ read .answer-read .ensures .0)
 
 slice-aggregate-write-out : tie.Need-slice-aggregate-write-out
 slice-aggregate-write-out c =
     let read = c .before .before .before .before .before .before .before .before in
-    let told = rw (c .before .before .n .given .1) at (read .answer-read .ensures) in
-    sym (length-take-le _ _ (told .1))
+    let fits = last-within _ _ _ _ (read .answer-read .ensures .1 .0) _ (sym (c .before .before .n .given .1) ∙ read .answer-read .ensures .0) in
+    sym (length-take-le _ _ fits)
 
 write-out-requires : tie.Need-write-out-requires
 write-out-requires c κs = search needs
@@ -65,14 +63,13 @@ enum-known-block c = search needs
 slice-reshare-prefix-write-out-2 : tie.Need-slice-reshare-prefix-write-out-2
 slice-reshare-prefix-write-out-2 c =
     let read = c .before .before .before .before .before .before .before in
-    let told = rw (c .before .block .given .1) at (read .answer-read .ensures) in
-    omega (arith, told .2)
+    part-within _ _ _ _ (read .answer-read .ensures .1 .0) _ (sym (c .before .block .given .1) ∙ read .answer-read .ensures .0)
 
 slice-aggregate-write-out-2 : tie.Need-slice-aggregate-write-out-2
 slice-aggregate-write-out-2 c =
     let read = c .before .before .before .before .before .before .before .before in
-    let told = rw (c .before .before .block .given .1) at (read .answer-read .ensures) in
-    sym (length-take-le _ _ (told .2))
+    let fits = part-within _ _ _ _ (read .answer-read .ensures .1 .0) _ (sym (c .before .before .block .given .1) ∙ read .answer-read .ensures .0) in
+    sym (length-take-le _ _ fits)
 
 write-out-requires-2 : tie.Need-write-out-requires-2
 write-out-requires-2 c κs = search needs
@@ -97,8 +94,9 @@ returns-3 : tie.Need-returns-3
 returns-3 c =
     let part = c .before .before .before .before in
     let read = part .before .before .before .before .before .before in
-    let told = rw (part .block .given .1) at (read .answer-read .ensures) in
-    (told .1, told .4)
+    let filled = read .before .before .before .before .before .before .before .before in
+    part-left _ _ _ _ _ _ _ refl (filled .fill .ensures .1) (sym (part .block .given .1) ∙ read .answer-read .ensures .0)
+    (read .answer-read .ensures .1 .1)
 
 same-length-6 : tie.Need-same-length-6
 same-length-6 c = search needs
