@@ -1,18 +1,24 @@
 -- What is kept of a line, byte by byte. Assumes nothing.
-use mathlib.Core.Path.{_≡_, _∙_, refl, ap}
+use mathlib.Core.Path.{_≡_, _∙_, refl, sym, ap}
 use mathlib.Core.List.{List, [], _∷_, _++_}
-use Prim.Native.Nat.{ℕ, _+_, _<_}
+use Prim.Native.Nat.{ℕ, _+_, _≤_, _<_}
 use native.Mathlib.Numerals.{add-one}
 use native.Mathlib.Omega.{arith}
 use borrow.Author.Tests.{eq-eqb, ne-eqb}
-use lib.ListN.{length, take, getD}
-use lib.Seq.{take-suc}
+use lib.ListN.{length, take, drop, getD, take-append-drop}
+use lib.Seq.{take-suc, length-take-le}
 use Rattle.measure.specs.Choice.{if_then_else_, _=?_}
-use Rattle.line_ends.specs.LineEnds.{lineEnd}
+use Rattle.frames.specs.LineEnds.{lineEnd}
+use Rattle.measure.specs.Row.{over}
 use Rattle.measure.specs.Epoch.{shoushi}
 use Rattle.questions.specs.Question.{replyTo}
 use Rattle.replies.specs.ReplyText.{replyText}
 use Rattle.desk.specs.Input.{withByte, keptAfter, lastText}
+
+-- the first bytes of a row, written over it, leave it as it was
+pub over-itself : (k : ℕ) (row : List ℕ) → k ≤ length row → row ≡ over (take k row) row
+unfolding over
+over-itself k row fits = sym (ap (λ (j : ℕ). take k row ++ drop j row) (length-take-le k row fits) ∙ take-append-drop k row)
 
 kept-snoc : (room : ℕ) (line bs : List ℕ) (b : ℕ) → keptAfter room line (bs ++ (b ∷ [])) ≡ withByte room (keptAfter room line bs) b
 unfolding keptAfter

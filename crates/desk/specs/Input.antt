@@ -8,7 +8,7 @@ use lib.IntN.{ℤ, pos, negsuc}
 use lib.ListN.{length, take}
 use Rattle.measure.specs.Choice.{if_then_else_, _<?_, _=?_}
 use Rattle.measure.specs.Epoch.{shoushi}
-use Rattle.line_ends.specs.LineEnds.{lineEnd}
+use Rattle.frames.specs.LineEnds.{lineEnd}
 use Rattle.questions.specs.Question.{replyTo}
 use Rattle.replies.specs.ReplyText.{replyText}
 use Rattle.desk.specs.declared.Turn.{Turn}
@@ -16,9 +16,13 @@ use Rattle.desk.specs.declared.Turn.the-variants.{Begun, Ended, CutShort
 use Rattle.desk.specs.declared.Asked.{Asked}
 use Rattle.desk.specs.declared.Asked.the-variants.{Line, Nothing}
 
--- one byte more of a line: its end begins the next, and where there is no room the byte is dropped
+-- one byte more of a line; where there is no room it is dropped
+abbrev pub withMore : ℕ → List ℕ → ℕ → List ℕ
+withMore room line b = take room (line ++ (b ∷ []))
+
+-- its end begins the next
 unfoldable pub withByte : ℕ → List ℕ → ℕ → List ℕ
-withByte room line b = if b =? lineEnd then [] else take room (line ++ (b ∷ []))
+withByte room line b = if b =? lineEnd then [] else withMore room line b
 
 -- what is kept after a block, of a line that was begun before it
 unfoldable pub keptAfter : ℕ → List ℕ → List ℕ → List ℕ
@@ -33,13 +37,14 @@ lastText (b ∷ bs) = replyText (replyTo shoushi (b ∷ bs))
 -- how a turn ends: the input has ended exactly where nothing was read; else the line's first bytes are what is kept of it, unless a
 -- write failed
 abbrev pub Left : Turn → List ℕ → ℕ → List ℕ → List ℕ → Type 0
-Left (Begun n) row room line block = (0 < length block) × (n ≤ room) × (take n row ≡ keptAfter room line block)
+Left (Begun n) row room line block =
+    (0 < length block) × (n ≤ room) × (n ≡ length (keptAfter room line block)) × (take n row ≡ keptAfter room line block)
 Left Ended row room line block = length block ≡ 0
 Left CutShort row room line block = 0 < length block
 
 -- a line before argument i: a blank stands before each but the first
 abbrev pub withBlank : ℕ → ℕ → List ℕ → List ℕ
-withBlank room i line = if 1 <? i then take room (line ++ (0x20 ∷ [])) else line
+withBlank room i line = if 1 <? i then withMore room line 0x20 else line
 
 -- a line begins with these bytes
 abbrev pub Begins : List ℕ → List ℕ → Type 0

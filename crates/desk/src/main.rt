@@ -1,22 +1,22 @@
 // The desk: answers the calendar's questions, from its arguments as one line when it has any, else one a line from standard input, which comes by
 // blocks. Each line is answered as it ends.
+use frames::LINE_END;
 use libc::STDERR_FILENO;
 use libc::STDIN_FILENO;
 use libc::STDOUT_FILENO;
-use line_ends::LINE_END;
 use measure::Answer;
 use reads::Got;
 use replies::YEARS_ROOM;
 ghost use mathlib.Core.Path.{_≡_};
-ghost use mathlib.Core.List.{[], _∷_, _++_};
 ghost use Prim.Native.Nat.{_+_, _≤_, _<_};
 ghost use lib.ListN.{length, take};
+ghost use Rattle.measure.specs.Row.{over};
 ghost use Rattle.measure.specs.Epoch.{shoushi};
 ghost use Rattle.reads.specs.Given.{Within};
 ghost use Rattle.questions.specs.Question.{longest, replyTo};
 ghost use Rattle.list_texts.specs.ListText.{yearsRoom};
 ghost use Rattle.replies.specs.ReplyText.{replyText};
-ghost use Rattle.desk.specs.Input.{lastText, Left, withBlank, withArgument, Begins, Told};
+ghost use Rattle.desk.specs.Input.{withMore, lastText, Left, withBlank, withArgument, Begins, Told};
 
 // How a turn ends: with so many bytes kept of a line that was begun, at the input's end, or by a failed write.
 enum Turn {
@@ -29,7 +29,8 @@ enum Turn {
 fn answered(line: &[u8], buf: &mut [u8]) -> usize
     requires { ⌜ yearsRoom ≤ length (now buf) ⌝ }
     ensures { λ r. ⌜ r ≤ length (now (buf .entry)) ⌝ }
-    ensures { λ r. ⌜ take r (now (buf .exit)) ≡ replyText (replyTo shoushi (now (line .entry))) ⌝ }
+    ensures { λ r. ⌜ r ≡ length (replyText (replyTo shoushi (now (line .entry)))) ⌝ }
+    ensures { λ _. ⌜ now (buf .exit) ≡ over (replyText (replyTo shoushi (now (line .entry)))) (now (buf .entry)) ⌝ }
 {
     let Answer::Number(n) = replies::write_reply(questions::ask(line), buf) else {
         return 0;
@@ -58,7 +59,8 @@ fn answer_line(line: &[u8], buf: &mut [u8]) -> bool
 fn keep(line: &mut [u8], kept: usize, b: u8) -> usize
     requires { ⌜ kept ≤ length (now line) ⌝ }
     ensures { λ r. ⌜ r ≤ length (now (line .entry)) ⌝ }
-    ensures { λ r. ⌜ take r (now (line .exit)) ≡ take (length (now (line .entry))) (take kept (now (line .entry)) ++ (b ∷ [])) ⌝ }
+    ensures { λ r. ⌜ r ≡ length (withMore (length (now (line .entry))) (take kept (now (line .entry))) b) ⌝ }
+    ensures { λ _. ⌜ now (line .exit) ≡ over (withMore (length (now (line .entry))) (take kept (now (line .entry))) b) (now (line .entry)) ⌝ }
 {
     if kept < line.len() {
         line[kept] = b;
@@ -92,7 +94,8 @@ fn answer_block(block: &[u8], line: &mut [u8], kept: usize, buf: &mut [u8]) -> T
 fn last_reply(line: &[u8], buf: &mut [u8]) -> usize
     requires { ⌜ yearsRoom ≤ length (now buf) ⌝ }
     ensures { λ r. ⌜ r ≤ length (now (buf .entry)) ⌝ }
-    ensures { λ r. ⌜ take r (now (buf .exit)) ≡ lastText (now (line .entry)) ⌝ }
+    ensures { λ r. ⌜ r ≡ length (lastText (now (line .entry))) ⌝ }
+    ensures { λ _. ⌜ now (buf .exit) ≡ over (lastText (now (line .entry))) (now (buf .entry)) ⌝ }
 {
     if line.len() == 0 {
         return 0;
@@ -149,7 +152,8 @@ fn answer_lines(line: &mut [u8], buf: &mut [u8])
 fn blank_before(line: &mut [u8], n: usize, i: usize) -> usize
     requires { ⌜ n ≤ length (now line) ⌝ }
     ensures { λ r. ⌜ r ≤ length (now (line .entry)) ⌝ }
-    ensures { λ r. ⌜ take r (now (line .exit)) ≡ withBlank (length (now (line .entry))) i (take n (now (line .entry))) ⌝ }
+    ensures { λ r. ⌜ r ≡ length (withBlank (length (now (line .entry))) i (take n (now (line .entry)))) ⌝ }
+    ensures { λ _. ⌜ now (line .exit) ≡ over (withBlank (length (now (line .entry))) i (take n (now (line .entry)))) (now (line .entry)) ⌝ }
 {
     if i > 1 {
         return keep(line, n, b' ');

@@ -6,8 +6,9 @@ use mathlib.Core.List.{List, [], _∷_, _++_}
 use mathlib.Core.Logic.{⊎-elim}
 use denote.Ref.{now}
 use lib.ListN.{length, take, getD}
-use lib.Seq.{take-all}
+use lib.Seq.{take-all, length-take-le}
 use native.Mathlib.Omega.{arith}
+use Rattle.measure.proofs.Row.{written}
 use Rattle.desk.specs.Input.{keptAfter}
 use Rattle.desk.proofs.Kept.{ended, goes-on, at-start}
 use Rattle.desk.proofs.answer_block.Statement.{statement}
@@ -77,7 +78,7 @@ loop-again c =
       omega (arith, ap length (w .5), ap length (w .6)),
       ap (λ k. take k (c .if2 .line)) (w .7)
           ∙ ap (take (w .2 .result)) (w .5)
-          ∙ w .2 .ensures .1
+          ∙ written _ _ (w .2 .last .0) (w .2 .result) (sym (w .2 .ensures .1 .0)) (w .2 .ensures .1 .1)
           ∙ ap (λ k. take k (take (l .loop .n) (l .loop .line) ++ (b ∷ []))) (l .loop .inv .2)
           ∙ ap (λ s. take room (s ++ (b ∷ []))) (l .loop .inv .4)
           ∙ sym (goes-on room begun block i (omega arith) (w .0 .left)),
@@ -96,10 +97,12 @@ returns c =
     let a = l .before .before .before .before .args in
     let block = now (a .block) in
     let whole : length block ≤ l .loop .i =
-    ⊎-elim (λ w. absurd (false≢true (sym (w .1 .left) ∙ c .if3 .taken))) (λ w. w .left) (c .before .loop-test .came) in (
+    ⊎-elim (λ w. absurd (false≢true (sym (w .1 .left) ∙ c .if3 .taken))) (λ w. w .left) (c .before .loop-test .came) in
+    let kept = l .loop .inv .4 ∙ ap (keptAfter (length (now (a .line))) (take (a .kept) (now (a .line)))) (take-all (l .loop .i) block whole) in (
       omega arith,
       omega arith,
-      l .loop .inv .4 ∙ ap (keptAfter (length (now (a .line))) (take (a .kept) (now (a .line)))) (take-all (l .loop .i) block whole),
+      sym (length-take-le (l .loop .n) (l .loop .line) (l .loop .inv .1)) ∙ ap length kept,
+      kept,
     )
 
 same-length-3 : tie.Need-same-length-3 Inv-loop μ-loop

@@ -7,8 +7,8 @@ use denote.Ref.{now}
 use lib.ListN.{length}
 use Rattle.measure.specs.Reply.{answer, answerSaid}
 use Rattle.measure.specs.Row.{over}
-use Rattle.measure.proofs.Row.{written, over-least}
-use Rattle.questions.specs.Told.{toldIn}
+use Rattle.measure.proofs.Row.{over-least}
+use Rattle.questions.specs.Told.{Told, toldIn}
 use Rattle.replies.specs.ReplyText.{replyText}
 use Rattle.replies.proofs.Room.{answered-whole}
 use Rattle.desk.proofs.answered.Statement.{statement}
@@ -55,7 +55,10 @@ returns-2 c =
     let same : length new ≡ n = cc in
     let row : write .write-reply .last .1 .0 ≡ over new (now (a .buf)) = rw room at (write .write-reply .ensures .1) in (
       omega (arith, over-least new (now (a .buf)), ap length row, write .write-reply .kept .1 .0),
-      written new (now (a .buf)) (write .write-reply .last .1 .0) n same row ∙ ap replyText (ask .ask .ensures),
+      (
+        sym same ∙ ap (λ (t : Told). length (replyText t)) (ask .ask .ensures),
+        row ∙ ap (λ (t : Told). over (replyText t) (now (a .buf))) (ask .ask .ensures),
+      ),
     )
 
 pub answered-spec : {M : Type 1} → statement M

@@ -7,6 +7,7 @@ use borrow.Rule.Slice.PartMut.{take-put}
 use borrow.Author.Needs.{needs}
 use lib.ListN.{length, take}
 use lib.Seq.{take-take, length-take-le}
+use Rattle.measure.proofs.Row.{written}
 use Rattle.desk.specs.Input.{Begins}
 use Rattle.desk.proofs.join.Statement.{statement}
 use Rattle.desk.proofs.join.Tie as tie
@@ -49,7 +50,8 @@ returns c =
     let after = blank .blank-before .last .0 in
     let fits : from ≤ length after = omega (arith, blank .blank-before .kept .0) in
     let stays = take-put from (length after - from) after (arg .arg .last .1 .0) fits in
-    (omega arith, begins _ from _ after _ (c .with-argument .ensures .1 .0) fits (blank .blank-before .ensures .1) stays)
+    let first = written _ _ after from (sym (blank .blank-before .ensures .1 .0)) (blank .blank-before .ensures .1 .1) in
+    (omega arith, begins _ from _ after _ (c .with-argument .ensures .1 .0) fits first stays)
 
 pub join-spec : {M : Type 1} → statement M
 join-spec =
