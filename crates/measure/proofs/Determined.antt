@@ -19,6 +19,17 @@ OneReply {n} ps r Post =
     → Post κs a y t
     → x ≡ y
 
+-- and, where a row is lent, what it holds at the end is equal too
+abbrev pub OneOutcome : {n : ℕ} (ps : List (PK n)) (r : RK n)
+    → Out n ps r
+    → ((κs : Lfts n) → AtExit (endedOf n ps r) κs → List ℕ)
+    → Type 0
+OneOutcome {n} ps r Post row =
+    (κs : Lfts n) (a : Dens κs ps) (x y : resT r κs .Denot) (s t : AtExit (endedOf n ps r) κs)
+    → Post κs a x s
+    → Post κs a y t
+    → (x ≡ y) × (row κs s ≡ row κs t)
+
 -- a reply that can be read back off what it says is determined by that
 pub read-back : {A B : Type 0} (said : A → B) (meant : B → A)
     → ((a : A) → meant (said a) ≡ a)

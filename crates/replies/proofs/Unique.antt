@@ -1,11 +1,8 @@
 -- Each question's contract determines its reply and, where a row is lent, every byte of it.
 -- Assumes nothing.
-use mathlib.Core.Path.{_≡_, _∙_, sym}
-use contract.Lifetimes.{Lfts}
-use borrow.Fn.Kinds.{Dens, resT, endedOf}
+use mathlib.Core.Path.{_∙_, sym}
 use denote.Ref.{now}
-use denote.Triple.Clauses.{AtExit}
-use Rattle.measure.proofs.Determined.{OneReply, one-answer}
+use Rattle.measure.proofs.Determined.{OneReply, OneOutcome, one-answer}
 use Rattle.replies.proofs.room_for.Kinds as room-for
 use Rattle.replies.proofs.room_for.Reads as room-for-reads
 use Rattle.replies.proofs.write_reply.Kinds as write-reply
@@ -14,8 +11,5 @@ use Rattle.replies.proofs.write_reply.Reads as write-reply-reads
 pub room-for-unique : OneReply room-for.ps room-for.r room-for-reads.Post
 room-for-unique κs a x y s t p q = p ∙ sym q
 
-pub write-reply-unique : (κs : Lfts 1) (a : Dens κs write-reply.ps) (x y : resT write-reply.r κs .Denot) (s t : AtExit (endedOf 1 write-reply.ps write-reply.r) κs)
-    → write-reply-reads.Post κs a x s
-    → write-reply-reads.Post κs a y t
-    → (x ≡ y) × (now (s .1 .0) ≡ now (t .1 .0))
+pub write-reply-unique : OneOutcome write-reply.ps write-reply.r write-reply-reads.Post (λ κs s. now (s .1 .0))
 write-reply-unique κs a x y s t p q = (one-answer x y _ (p .0) (q .0), p .1 ∙ sym (q .1))
