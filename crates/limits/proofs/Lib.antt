@@ -1,1 +1,2 @@
 pub mod NearerEnd
+pub mod Unique

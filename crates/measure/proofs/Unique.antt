@@ -1,4 +1,4 @@
--- Each question's contract determines its reply.
+-- Each contract determines its reply: the questions', and that of the product for the crates above.
 -- Assumes nothing.
 use mathlib.Core.Path.{_∙_, sym}
 use Rattle.measure.proofs.Determined.{OneReply}
@@ -8,6 +8,8 @@ use Rattle.measure.proofs.remainder_of.Kinds as remainder-of
 use Rattle.measure.proofs.remainder_of.Reads as remainder-of-reads
 use Rattle.measure.proofs.name_of.Kinds as name-of
 use Rattle.measure.proofs.name_of.Reads as name-of-reads
+use Rattle.measure.proofs.over_day.Kinds as over-day
+use Rattle.measure.proofs.over_day.Reads as over-day-reads
 
 pub day-of-unique : OneReply day-of.ps day-of.r day-of-reads.Post
 day-of-unique κs a x y s t p q = p ∙ sym q
@@ -17,3 +19,6 @@ remainder-of-unique κs a x y s t p q = p ∙ sym q
 
 pub name-of-unique : OneReply name-of.ps name-of.r name-of-reads.Post
 name-of-unique κs a x y s t p q = p ∙ sym q
+
+pub over-day-unique : OneReply over-day.ps over-day.r over-day-reads.Post
+over-day-unique κs a x y s t p q = p ∙ sym q

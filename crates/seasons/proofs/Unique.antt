@@ -1,5 +1,6 @@
--- Each question's contract determines its reply.
+-- Each contract determines its reply: the questions', and that of a term's time for callers that know it to be admitted.
 -- Assumes nothing.
+use mathlib.Core.Path.{_∙_, sym}
 use Rattle.measure.proofs.Determined.{OneReply, one-answer}
 use Rattle.seasons.proofs.solstice.Kinds as solstice
 use Rattle.seasons.proofs.solstice.Reads as solstice-reads
@@ -9,6 +10,8 @@ use Rattle.seasons.proofs.pentad.Kinds as pentad
 use Rattle.seasons.proofs.pentad.Reads as pentad-reads
 use Rattle.seasons.proofs.earth.Kinds as earth
 use Rattle.seasons.proofs.earth.Reads as earth-reads
+use Rattle.seasons.proofs.term_time.Kinds as term-time
+use Rattle.seasons.proofs.term_time.Reads as term-time-reads
 
 pub solstice-unique : OneReply solstice.ps solstice.r solstice-reads.Post
 solstice-unique κs a x y s t p q = one-answer x y _ p q
@@ -21,3 +24,6 @@ pentad-unique κs a x y s t p q = one-answer x y _ p q
 
 pub earth-unique : OneReply earth.ps earth.r earth-reads.Post
 earth-unique κs a x y s t p q = one-answer x y _ p q
+
+pub term-time-unique : OneReply term-time.ps term-time.r term-time-reads.Post
+term-time-unique κs a x y s t p q = p ∙ sym q

@@ -1,4 +1,4 @@
--- Each question's contract determines its reply, and what a signed answer says determines the answer.
+-- Each contract determines its reply, and what a signed answer says determines the answer.
 -- Assumes nothing.
 use mathlib.Core.Path.{_≡_, _∙_, refl, sym}
 use lib.IntN.{ℤ}
@@ -7,6 +7,10 @@ use Rattle.measure.proofs.Determined.{OneReply, read-back}
 use Rattle.signed.specs.Signed.{signedSaid}
 use Rattle.signed.specs.declared.SignedAnswer.{SignedAnswer}
 use Rattle.signed.specs.declared.SignedAnswer.the-variants.{Number, Refused}
+use Rattle.signed.proofs.ahead.Kinds as ahead
+use Rattle.signed.proofs.ahead.Reads as ahead-reads
+use Rattle.signed.proofs.behind.Kinds as behind
+use Rattle.signed.proofs.behind.Reads as behind-reads
 use Rattle.signed.proofs.magnitude_of.Kinds as magnitude-of
 use Rattle.signed.proofs.magnitude_of.Reads as magnitude-of-reads
 
@@ -21,6 +25,12 @@ signed-back (Refused k) = refl
 
 pub one-signed : (x y : SignedAnswer) (z : Reply ℤ) → signedSaid x ≡ z → signedSaid y ≡ z → x ≡ y
 one-signed = read-back signedSaid signedMeant signed-back
+
+pub ahead-unique : OneReply ahead.ps ahead.r ahead-reads.Post
+ahead-unique κs a x y s t p q = p ∙ sym q
+
+pub behind-unique : OneReply behind.ps behind.r behind-reads.Post
+behind-unique κs a x y s t p q = p ∙ sym q
 
 pub magnitude-of-unique : OneReply magnitude-of.ps magnitude-of.r magnitude-of-reads.Post
 magnitude-of-unique κs a x y s t p q = p ∙ sym q
