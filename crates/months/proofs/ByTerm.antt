@@ -5,6 +5,8 @@ use Prim.Native.Nat.{ℕ, suc, _+_, _-_, _/_, _<_}
 use native.Mathlib.Omega.{arith}
 use Rattle.month_law.specs.Calendar.{Calendar, lengthOf, monthOf, head, monthsIn, yearOf}
 use Rattle.month_law.specs.Lawful.{Lawful}
+use Rattle.month_law.proofs.Rising.{step-unique}
+use Rattle.month_law.proofs.Months.{mid-rises}
 use Rattle.month_law.proofs.Terms.{lastTerm, lacks, last-unique, InList, year-to-list}
 use Rattle.month_law.proofs.Lists.{leap-lacks, listed-place}
 use Rattle.month_law.proofs.Numbers.{number-by-term}
@@ -13,6 +15,12 @@ use Rattle.months.specs.Month.{MonthOfDay, kindAt, placed, monthOfDay}
 use Rattle.months.specs.Span.{LastBefore, kindBy}
 
 module _ (c : Calendar) (ok : Lawful c) where
+  -- a day has one last middle term before it
+  pub last-before : (next j k : ℕ) → LastBefore c next j → LastBefore c next k → j ≡ k
+  last-before next j k p q =
+      step-unique (c .mid) (mid-rises c ok) (next - 1) j k (record { since = omega arith; until = omega arith })
+      (record { since = omega arith; until = omega arith })
+
   -- the last middle term before the next month
   pub last-is : (l j : ℕ) → LastBefore c (c .first (suc l)) j → j ≡ lastTerm c l
   last-is l j h = last-unique c ok l j (record { come = h .come; next = h .not-come })
