@@ -1,2 +1,3 @@
 pub mod ListLaws
 pub mod RecordLaws
+pub mod Unique
