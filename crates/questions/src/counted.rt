@@ -14,7 +14,7 @@ ghost use Rattle.measure.specs.Epoch.{shoushi};
 ghost use Rattle.questions.specs.Told.{toldIn};
 ghost use Rattle.questions.specs.Question.{_among_, _at_, alone, withOne, withTwo, withThree};
 
-pub fn alone(word: &[u8]) -> Reply
+pub(crate) fn alone(word: &[u8]) -> Reply
     ensures { λ r. ⌜ toldIn r ≡ now (word .entry) among alone ⌝ }
 {
     alone_at(place_of(word, b" constants help"))
@@ -30,7 +30,7 @@ fn alone_at(k: usize) -> Reply
     }
 }
 
-pub fn with_one(word: &[u8], n: u64) -> Reply
+pub(crate) fn with_one(word: &[u8], n: u64) -> Reply
     ensures { λ r. ⌜ toldIn r ≡ now (word .entry) among withOne shoushi n ⌝ }
 {
     one_at(
@@ -59,7 +59,7 @@ fn one_at(k: usize, n: u64) -> Reply
     }
 }
 
-pub fn with_two(word: &[u8], n: u64, i: u64) -> Reply
+pub(crate) fn with_two(word: &[u8], n: u64, i: u64) -> Reply
     ensures { λ r. ⌜ toldIn r ≡ now (word .entry) among withTwo shoushi n i ⌝ }
 {
     two_at(
@@ -89,7 +89,7 @@ fn two_at(k: usize, n: u64, i: u64) -> Reply
     }
 }
 
-pub fn with_three(word: &[u8], n: u64, i: u64, p: u64) -> Reply
+pub(crate) fn with_three(word: &[u8], n: u64, i: u64, p: u64) -> Reply
     ensures { λ r. ⌜ toldIn r ≡ now (word .entry) among withThree shoushi n i p ⌝ }
 {
     three_at(place_of(word, b" pentad back"), n, i, p)

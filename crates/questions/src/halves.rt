@@ -14,7 +14,7 @@ ghost use Rattle.questions.specs.Told.{toldIn};
 ghost use Rattle.questions.specs.Question.{_among_, _at_, solarIn, lunarIn, motionIn, withHalf, onHalf};
 
 // After the half there is one number.
-pub fn on_half(word: &[u8], rest: &[u8]) -> Reply
+pub(crate) fn on_half(word: &[u8], rest: &[u8]) -> Reply
     ensures { λ r. ⌜ toldIn r ≡ onHalf (now (word .entry)) (partOf (now (rest .entry))) (numbersOf (restOf (now (rest .entry)))) ⌝ }
 {
     let numbers = words::numbers_in(words::rest_in(rest));

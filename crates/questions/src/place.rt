@@ -3,7 +3,7 @@ ghost use mathlib.Core.Path.{_≡_};
 ghost use Rattle.questions.specs.Place.{placeOf};
 
 // How many words of a list stand before this one: all, where it is not there. Each has one blank before it.
-pub fn place_of(word: &[u8], list: &[u8]) -> usize
+pub(crate) fn place_of(word: &[u8], list: &[u8]) -> usize
     ensures { λ r. ⌜ r ≡ placeOf (now (word .entry)) (now (list .entry)) ⌝ }
 {
     let mut left = list;

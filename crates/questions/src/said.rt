@@ -14,7 +14,7 @@ ghost use Rattle.questions.specs.Told.{toldIn, told, signed, month, mome
 ghost use Rattle.questions.specs.Question.{number, hour, named, found};
 
 // The reply of a number.
-pub fn number_of(a: Answer) -> Reply
+pub(crate) fn number_of(a: Answer) -> Reply
     ensures { λ r. ⌜ toldIn r ≡ told number (answerSaid a) ⌝ }
 {
     match a {
@@ -24,7 +24,7 @@ pub fn number_of(a: Answer) -> Reply
 }
 
 // The reply of a signed number.
-pub fn signed_of(a: SignedAnswer) -> Reply
+pub(crate) fn signed_of(a: SignedAnswer) -> Reply
     ensures { λ r. ⌜ toldIn r ≡ told signed (signedSaid a) ⌝ }
 {
     match a {
@@ -34,7 +34,7 @@ pub fn signed_of(a: SignedAnswer) -> Reply
 }
 
 // The reply of a running time.
-pub fn moment_of(a: Answer) -> Reply
+pub(crate) fn moment_of(a: Answer) -> Reply
     ensures { λ r. ⌜ toldIn r ≡ told moment (answerSaid a) ⌝ }
 {
     match a {
@@ -44,7 +44,7 @@ pub fn moment_of(a: Answer) -> Reply
 }
 
 // The reply of a day's month.
-pub fn month_of(m: months::Reply) -> Reply
+pub(crate) fn month_of(m: months::Reply) -> Reply
     ensures { λ r. ⌜ toldIn r ≡ told month (replySaid m) ⌝ }
 {
     match m {
@@ -54,14 +54,14 @@ pub fn month_of(m: months::Reply) -> Reply
 }
 
 // The reply of a day's name.
-pub fn name_of(n: measure::Name) -> Reply
+pub(crate) fn name_of(n: measure::Name) -> Reply
     ensures { λ r. ⌜ toldIn r ≡ named n ⌝ }
 {
     Reply::Three(n.name, n.stem, n.branch)
 }
 
 // The reply of a double-hour.
-pub fn hour_of(h: Hour) -> Reply
+pub(crate) fn hour_of(h: Hour) -> Reply
     ensures { λ r. ⌜ toldIn r ≡ told hour (hourSaid h) ⌝ }
 {
     match h {
@@ -71,7 +71,7 @@ pub fn hour_of(h: Hour) -> Reply
 }
 
 // The reply of the days to add.
-pub fn days_on(d: Days) -> Reply
+pub(crate) fn days_on(d: Days) -> Reply
     ensures { λ r. ⌜ toldIn r ≡ told found (daysSaid d) ⌝ }
 {
     match d {
