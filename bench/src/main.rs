@@ -18,10 +18,17 @@ struct Day {
     refused: u8,
 }
 
+/// An answer's number, or a refusal's in `refused`.
+#[repr(C)]
+struct Told {
+    refused: u64,
+    number: u64,
+}
+
 extern "C" {
     fn lengadriu_day(d: u64) -> Day;
-    fn timing_true_moon(l: u64, q: u64) -> u64;
-    fn timing_run(row: *mut u64, length: usize, n: u64, count: u64) -> u64;
+    fn timing_true_moon(l: u64, q: u64) -> Told;
+    fn timing_run(row: *mut u64, length: usize, n: u64, count: u64) -> Told;
 }
 
 /// The least nanoseconds that one of `of` items took, over several rounds of both sides in turn.
@@ -71,7 +78,9 @@ fn true_moons() -> bool {
     let asked = shuffled(200_000, 12_368 * 4);
     let ours = || {
         asked.iter().fold(0u64, |sum, x| {
-            sum.wrapping_add(unsafe { timing_true_moon(x / 4, x % 4) })
+            let moon = unsafe { timing_true_moon(x / 4, x % 4) };
+            assert_eq!(moon.refused, 0);
+            sum.wrapping_add(moon.number)
         })
     };
     let theirs = || {
@@ -90,10 +99,11 @@ fn runs() -> bool {
     let mut row = vec![0u64; 52_000];
     let mut records = vec![plain::Record::default(); 13_000];
     let ours = || {
-        let n = unsafe { timing_run(row.as_mut_ptr(), row.len(), 0, 1_000) };
-        row[..4 * n as usize]
+        let run = unsafe { timing_run(row.as_mut_ptr(), row.len(), 0, 1_000) };
+        assert_eq!(run.refused, 0);
+        row[..4 * run.number as usize]
             .iter()
-            .fold(n, |sum, x| sum.wrapping_mul(31).wrapping_add(*x))
+            .fold(run.number, |sum, x| sum.wrapping_mul(31).wrapping_add(*x))
     };
     let theirs = || {
         let n = plain::run(0, 1_000, &mut records);

@@ -10,31 +10,43 @@ ghost use Rattle.moons.specs.TrueMoon.{trueReply};
 ghost use Rattle.edition.specs.Edition.{calendar};
 ghost use Rattle.year_rows.specs.Records.{recordWidth};
 ghost use Rattle.lists.specs.Lists.{runOf, runReply};
-ghost use Rattle.timing.specs.Timed.{timed};
+ghost use Rattle.timing.specs.Told.{numberTold};
+
+// An answer's number, with refused 0; a refusal has its number in refused, and 0 for the other.
+#[repr(C)]
+pub struct Told {
+    pub refused: u64,
+    pub number: u64,
+}
 
 // The true moon's running time.
 #[no_mangle]
-pub extern "C" fn timing_true_moon(l: u64, q: u64) -> u64
-    ensures { λ r. ⌜ r ≡ timed (trueReply shoushi l q) ⌝ }
+pub extern "C" fn timing_true_moon(l: u64, q: u64) -> Told
+    ensures { λ r. ⌜ r ≡ numberTold (trueReply shoushi l q) ⌝ }
 {
-    number(moons::true_moon(l, q))
+    number_told(moons::true_moon(l, q))
 }
 
 // The records of so many years; how many there are.
 #[no_mangle]
-pub extern "C" fn timing_run(row: &mut [u64], n: u64, count: u64) -> u64
-    ensures { λ r. ⌜ r ≡ timed (runReply shoushi n count (length (now (row .entry)) / recordWidth)) ⌝ }
+pub extern "C" fn timing_run(row: &mut [u64], n: u64, count: u64) -> Told
+    ensures { λ r. ⌜ r ≡ numberTold (runReply shoushi n count (length (now (row .entry)) / recordWidth)) ⌝ }
     ensures { λ _. ⌜ now (row .exit) ≡ rowAfter (runReply shoushi n count (length (now (row .entry)) / recordWidth)) (runOf (calendar shoushi) n count) (now (row .entry)) ⌝ }
 {
-    number(lists::run(n, count, row))
+    number_told(lists::run(n, count, row))
 }
 
-// The number of an answer, or of its refusal.
-fn number(a: Answer) -> u64
-    ensures { λ r. ⌜ r ≡ timed (answerSaid a) ⌝ }
+fn number_told(a: Answer) -> Told
+    ensures { λ r. ⌜ r ≡ numberTold (answerSaid a) ⌝ }
 {
     match a {
-        Answer::Number(n) => n,
-        Answer::Refused(k) => k,
+        Answer::Number(n) => Told {
+            refused: 0,
+            number: n,
+        },
+        Answer::Refused(k) => Told {
+            refused: k,
+            number: 0,
+        },
     }
 }

@@ -1,18 +1,18 @@
 -- `timing::timing_true_moon` meets its contract. Assumes nothing.
 use mathlib.Core.Path.{_∙_, ap}
 use borrow.Author.Needs.{needs}
-use Rattle.timing.specs.Timed.{timed}
+use Rattle.timing.specs.Told.{numberTold}
 use Rattle.timing.proofs.timing_true_moon.Statement.{statement}
 use Rattle.timing.proofs.timing_true_moon.Tie as tie
 
 true-moon-requires : tie.Need-true-moon-requires
 true-moon-requires c κs = search needs
 
-number-requires : tie.Need-number-requires
-number-requires c κs = search needs
+number-told-requires : tie.Need-number-told-requires
+number-told-requires c κs = search needs
 
 returns : tie.Need-returns
-returns c = c .number .ensures ∙ ap timed (c .before .true-moon .ensures)
+returns c = c .number-told .ensures ∙ ap numberTold (c .before .true-moon .ensures)
 
 pub timing-true-moon-spec : {M : Type 1} → statement M
-timing-true-moon-spec = tie.close (tie.spec true-moon-requires number-requires returns)
+timing-true-moon-spec = tie.close (tie.spec true-moon-requires number-told-requires returns)
