@@ -5,6 +5,7 @@ use contract.Lifetimes.{Lfts}
 use borrow.Fn.Kinds.{Dens, resT, endedOf}
 use denote.Ref.{now}
 use denote.Triple.Clauses.{AtExit}
+use Rattle.measure.proofs.Determined.{OneOutcome}
 use Rattle.blocks.proofs.answer_block.Kinds as answer-block
 use Rattle.blocks.proofs.answer_block.Reads as answer-block-reads
 use Rattle.blocks.proofs.answer_lines.Kinds as answer-lines
@@ -17,9 +18,5 @@ pub answer-block-unique : (κs : Lfts 2) (a : Dens κs answer-block.ps) (x y : r
     → (x ≡ y) × (now (s .0) ≡ now (t .0)) × (now (s .1 .1 .0) ≡ now (t .1 .1 .0))
 answer-block-unique κs a x y s t p q = (p .0 ∙ sym (q .0), p .1 .1 ∙ sym (q .1 .1), p .1 .0 ∙ sym (q .1 .0))
 
-pub answer-lines-unique : (κs : Lfts 2) (a : Dens κs answer-lines.ps) (x y : resT answer-lines.r κs .Denot)
-    (s t : AtExit (endedOf 2 answer-lines.ps answer-lines.r) κs)
-    → answer-lines-reads.Post κs a x s
-    → answer-lines-reads.Post κs a y t
-    → (x ≡ y) × (now (s .1 .0) ≡ now (t .1 .0))
+pub answer-lines-unique : OneOutcome answer-lines.ps answer-lines.r answer-lines-reads.Post (λ κs s. now (s .1 .0))
 answer-lines-unique κs a x y s t p q = (p .0 ∙ sym (q .0), p .1 ∙ sym (q .1))

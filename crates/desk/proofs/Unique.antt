@@ -10,7 +10,7 @@ use borrow.Fn.Kinds.{Dens, resT, endedOf}
 use denote.Ref.{now}
 use denote.Triple.Clauses.{AtExit}
 use lib.ListN.{take}
-use Rattle.measure.proofs.Determined.{OneReply}
+use Rattle.measure.proofs.Determined.{OneReply, OneOutcome}
 use Rattle.desk.specs.Input.{Left, Told}
 use Rattle.desk.specs.declared.Turn.{Turn}
 use Rattle.desk.specs.declared.Turn.the-variants.{Begun, Ended, CutShort}
@@ -33,31 +33,16 @@ use Rattle.desk.proofs.answer_read.Reads as answer-read-reads
 use Rattle.desk.proofs.join_arguments.Kinds as join-arguments
 use Rattle.desk.proofs.join_arguments.Reads as join-arguments-reads
 
-pub answered-unique : (κs : Lfts 2) (a : Dens κs answered.ps) (x y : resT answered.r κs .Denot)
-    (s t : AtExit (endedOf 2 answered.ps answered.r) κs)
-    → answered-reads.Post κs a x s
-    → answered-reads.Post κs a y t
-    → (x ≡ y) × (now (s .1 .0) ≡ now (t .1 .0))
+pub answered-unique : OneOutcome answered.ps answered.r answered-reads.Post (λ κs s. now (s .1 .0))
 answered-unique κs a x y s t p q = (p .1 .0 ∙ sym (q .1 .0), p .1 .1 ∙ sym (q .1 .1))
 
-pub last-reply-unique : (κs : Lfts 2) (a : Dens κs last-reply.ps) (x y : resT last-reply.r κs .Denot)
-    (s t : AtExit (endedOf 2 last-reply.ps last-reply.r) κs)
-    → last-reply-reads.Post κs a x s
-    → last-reply-reads.Post κs a y t
-    → (x ≡ y) × (now (s .1 .0) ≡ now (t .1 .0))
+pub last-reply-unique : OneOutcome last-reply.ps last-reply.r last-reply-reads.Post (λ κs s. now (s .1 .0))
 last-reply-unique κs a x y s t p q = (p .1 .0 ∙ sym (q .1 .0), p .1 .1 ∙ sym (q .1 .1))
 
-pub keep-unique : (κs : Lfts 1) (a : Dens κs keep.ps) (x y : resT keep.r κs .Denot) (s t : AtExit (endedOf 1 keep.ps keep.r) κs)
-    → keep-reads.Post κs a x s
-    → keep-reads.Post κs a y t
-    → (x ≡ y) × (now (s .0) ≡ now (t .0))
+pub keep-unique : OneOutcome keep.ps keep.r keep-reads.Post (λ κs s. now (s .0))
 keep-unique κs a x y s t p q = (p .1 .0 ∙ sym (q .1 .0), p .1 .1 ∙ sym (q .1 .1))
 
-pub blank-before-unique : (κs : Lfts 1) (a : Dens κs blank-before.ps) (x y : resT blank-before.r κs .Denot)
-    (s t : AtExit (endedOf 1 blank-before.ps blank-before.r) κs)
-    → blank-before-reads.Post κs a x s
-    → blank-before-reads.Post κs a y t
-    → (x ≡ y) × (now (s .0) ≡ now (t .0))
+pub blank-before-unique : OneOutcome blank-before.ps blank-before.r blank-before-reads.Post (λ κs s. now (s .0))
 blank-before-unique κs a x y s t p q = (p .1 .0 ∙ sym (q .1 .0), p .1 .1 ∙ sym (q .1 .1))
 
 pub with-argument-unique : OneReply with-argument.ps with-argument.r with-argument-reads.Post

@@ -5,7 +5,7 @@ use contract.Lifetimes.{Lfts}
 use borrow.Fn.Kinds.{Dens, resT, endedOf}
 use denote.Ref.{now}
 use denote.Triple.Clauses.{AtExit}
-use Rattle.measure.proofs.Determined.{OneReply, one-answer}
+use Rattle.measure.proofs.Determined.{OneReply, OneOutcome, one-answer}
 use Rattle.frames.proofs.line_len.Kinds as line-len
 use Rattle.frames.proofs.line_len.Reads as line-len-reads
 use Rattle.frames.proofs.rest.Kinds as rest
@@ -29,16 +29,8 @@ rest-unique κs a x y s t p q = p ∙ sym q
 pub day-asked-unique : OneReply day-asked.ps day-asked.r day-asked-reads.Post
 day-asked-unique κs a x y s t p q = one-answer x y _ p q
 
-pub put-month-unique : (κs : Lfts 1) (a : Dens κs put-month.ps) (x y : resT put-month.r κs .Denot)
-    (s t : AtExit (endedOf 1 put-month.ps put-month.r) κs)
-    → put-month-reads.Post κs a x s
-    → put-month-reads.Post κs a y t
-    → (x ≡ y) × (now (s .1 .1 .0) ≡ now (t .1 .1 .0))
+pub put-month-unique : OneOutcome put-month.ps put-month.r put-month-reads.Post (λ κs s. now (s .1 .1 .0))
 put-month-unique κs a x y s t p q = (p .0 ∙ sym (q .0), p .1 ∙ sym (q .1))
 
-pub put-refusal-unique : (κs : Lfts 1) (a : Dens κs put-refusal.ps) (x y : resT put-refusal.r κs .Denot)
-    (s t : AtExit (endedOf 1 put-refusal.ps put-refusal.r) κs)
-    → put-refusal-reads.Post κs a x s
-    → put-refusal-reads.Post κs a y t
-    → (x ≡ y) × (now (s .1 .0) ≡ now (t .1 .0))
+pub put-refusal-unique : OneOutcome put-refusal.ps put-refusal.r put-refusal-reads.Post (λ κs s. now (s .1 .0))
 put-refusal-unique κs a x y s t p q = (p .0 ∙ sym (q .0), p .1 ∙ sym (q .1))
