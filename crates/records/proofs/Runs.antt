@@ -16,11 +16,11 @@ use Rattle.edition.proofs.Edition.{shoushi-lawful}
 use Rattle.year_rows.specs.Records.{recordsOf}
 use Rattle.lists.specs.Lists.{runOf, monthsInRun, listReply, runReply}
 use Rattle.months.proofs.Reach.{head-most}
-use Rattle.lists.proofs.RunLaws.{months-run-most}
+use Rattle.lists.proofs.RunLaws.{run-ends, months-run-most}
 use Rattle.lists.proofs.Asked.{Outcome, no, yes, outcome, reply-of-one, run-of-one}
 use Rattle.records.specs.MonthRecords.{inRecords, monthsFrom, over, rowAfter, writtenIn}
 use Rattle.records.specs.declared.MonthRecord.{MonthRecord}
-use Rattle.records.proofs.Structs.{run-ends, records-of-run}
+use Rattle.records.proofs.Structs.{records-of-run}
 
 abbrev cal : Calendar
 cal = calendar shoushi

@@ -9,10 +9,10 @@ use native.Mathlib.Omega.{arith}
 use lib.ListN.{length, set, length-append}
 use Rattle.month_law.specs.Calendar.{Calendar, head, monthsIn}
 use Rattle.month_law.specs.Lawful.{Lawful}
-use Rattle.month_law.proofs.Months.{head-rises}
 use Rattle.year_rows.specs.Records.{recordAt, recordOf, recordsOf}
 use Rattle.lists.specs.Lists.{runOf, monthsInRun}
 use Rattle.year_rows.proofs.RecordLaws.{record-of}
+use Rattle.lists.proofs.RunLaws.{run-ends}
 use Rattle.records.specs.MonthRecords.{inRecords, recordIn, monthsFrom, over}
 use Rattle.records.specs.declared.MonthRecord.{MonthRecord}
 use Rattle.records.proofs.Rows.{put}
@@ -62,12 +62,6 @@ module _ (c : Calendar) where
   flat-record n p = refl
 
 module _ (c : Calendar) (ok : Lawful c) where
-  -- the months of a run end at the head of the year after it
-  pub run-ends : (n k : ℕ) → head c n + monthsInRun c n k ≡ head c (n + k)
-  unfolding monthsInRun
-  run-ends n zero = rw (add-zero (head c n), add-zero n)
-  run-ends n (suc k) = rw add-suc (omega (arith, run-ends n k, head-rises c ok (n + k)))
-
   flat-year : (n k : ℕ) → k ≤ monthsIn c n → flat (monthsFrom c (head c n) k) ≡ recordsOf c n k
   unfolding monthsFrom recordsOf flat
   flat-year n zero h = refl
@@ -83,7 +77,7 @@ module _ (c : Calendar) (ok : Lawful c) where
       ap flat (sym (months-append c (head c n) (monthsInRun c n k) (monthsIn c (n + k))))
       ∙ flat-append (monthsFrom c (head c n) (monthsInRun c n k)) _
       ∙ ap₂ (λ (x y : List ℕ). x ++ y) (flat-run n k)
-      (ap (λ (l : ℕ). flat (monthsFrom c l (monthsIn c (n + k)))) (run-ends n k) ∙ flat-year (n + k) (monthsIn c (n + k)) (omega arith))
+      (ap (λ (l : ℕ). flat (monthsFrom c l (monthsIn c (n + k)))) (run-ends c ok n k) ∙ flat-year (n + k) (monthsIn c (n + k)) (omega arith))
 
   -- so the records of a run are those of its months
   pub records-of-run : (n k : ℕ) → inRecords (runOf c n k) ≡ monthsFrom c (head c n) (monthsInRun c n k)

@@ -9,8 +9,8 @@ use Rattle.month_law.specs.Calendar.{Calendar, head}
 use Rattle.edition.specs.Edition.{calendar}
 use Rattle.edition.proofs.Edition.{shoushi-lawful}
 use Rattle.lists.specs.Lists.{runReply, monthsInRun}
+use Rattle.lists.proofs.RunLaws.{run-ends}
 use Rattle.lists.proofs.Asked.{Admitted, said-as, run-refused, run-admitted}
-use Rattle.records.proofs.Structs.{run-ends}
 use Rattle.records.proofs.run_reply.Statement.{statement}
 use Rattle.records.proofs.run_reply.Tie as tie
 
