@@ -43,7 +43,7 @@ module _ (c : Calendar) where
         length = lengthOf c l;
       }
 
-  -- the month of day d, by the lists of all years
+  -- the month of day d: the month that holds the day is sought, and then the year in whose list that month stands
   unfoldable pub monthOfDay : ℕ → MonthOfDay
   monthOfDay d =
       let l = monthOf c d in
