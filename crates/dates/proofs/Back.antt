@@ -2,7 +2,7 @@
 -- question gives them back.
 -- Assumes nothing.
 use mathlib.Core.Bool.{true, _&&_, false≢true}
-use mathlib.Core.Logic.{_⊎_, inl, inr}
+use mathlib.Core.Logic.{_⊎_, inl, inr, ⊎-elim}
 use mathlib.Core.Path.{_≡_, refl, ap, sym, subst, _∙_}
 use Prim.Native.Nat.{ℕ, _+_, _-_, _≤_, _<_}
 use native.Mathlib.Omega.{arith}
@@ -10,19 +10,51 @@ use borrow.Author.Tests.{lt-ltb, le-ltb, le-leb, lt-leb, eq-eqb, ne-eqb, eqb-tru
 use Rattle.measure.specs.Choice.{_=?_}
 use Rattle.measure.specs.Reply.{Reply, answer, refused, outside, noDay}
 use Rattle.measure.specs.Units.{lastYear}
-use Rattle.measure.specs.Epoch.{shoushi}
+use Rattle.measure.specs.Epoch.{Epoch, shoushi}
 use Rattle.measure.proofs.Choice.{lt-or-ge, both-pass, left-passes, right-passes}
 use Rattle.month_law.specs.Calendar.{Calendar, lengthOf, head, monthsIn}
 use Rattle.month_law.specs.Demand.{Date, Dated}
 use Rattle.edition.specs.Edition.{calendar}
 use Rattle.month_law.proofs.Days.{dateOf, dated, date-back}
-use Rattle.edition.proofs.Edition.{figures, shoushi-lawful}
-use Rattle.edition.proofs.Demand.{demand}
+use Rattle.month_law.proofs.Demand.{no-others}
+use Rattle.edition.proofs.Edition.{figures, shoushi-lawful, shoushi-ends}
 use Rattle.months.specs.Month.{MonthOfDay, earliest, latest, placed, monthOfDay, dayReply}
 use Rattle.dates.specs.Date.{dayAt, backReply, hasDate}
 
 abbrev c : Calendar
 c = calendar shoushi
+
+-- what the day question says of a day
+module _ (e : Epoch) (d : ℕ) where
+  pub asked : earliest ≤ d → d ≤ latest → dayReply e d ≡ answer (monthOfDay (calendar e) d)
+  unfolding dayReply
+  asked h k = simp (le-ltb d earliest h, le-ltb latest d k)
+
+  before : d < earliest → dayReply e d ≡ refused noDay
+  unfolding dayReply
+  before h = simp (lt-ltb d earliest h)
+
+  past : earliest ≤ d → latest < d → dayReply e d ≡ refused noDay
+  unfolding dayReply
+  past h k = simp (le-ltb d earliest h, lt-ltb latest d k)
+
+  -- it is one of the calendar, or it is refused
+  in-or-refused : ((earliest ≤ d) × (d ≤ latest)) ⊎ (dayReply e d ≡ refused noDay)
+  in-or-refused = early (lt-or-ge d earliest)
+    where
+      late : earliest ≤ d → (latest < d) ⊎ (d ≤ latest) → ((earliest ≤ d) × (d ≤ latest)) ⊎ (dayReply e d ≡ refused noDay)
+      late h (inl k) = inr (past h k)
+      late h (inr k) = inl (h, k)
+
+      early : (d < earliest) ⊎ (earliest ≤ d) → ((earliest ≤ d) × (d ≤ latest)) ⊎ (dayReply e d ≡ refused noDay)
+      early (inl h) = inr (before h)
+      early (inr h) = late h (lt-or-ge latest d)
+
+  -- so no other day is answered
+  pub answered-in : (m : MonthOfDay) → dayReply e d ≡ answer m → (earliest ≤ d) × (d ≤ latest)
+  answered-in m r =
+      ⊎-elim (λ (h : (earliest ≤ d) × (d ≤ latest)). h)
+      (λ (no : dayReply e d ≡ refused noDay). let z : _≡_ {A = ℕ} 0 1 = cc in omega arith) in-or-refused
 
 -- the three tests of a date
 all-equal : (x : MonthOfDay) (n p m : ℕ) → hasDate (answer x) n p m ≡ true → (x .year ≡ n) × (x .place ≡ p) × (x .day ≡ m)
@@ -110,27 +142,14 @@ module _ (n p m : ℕ) where
         place (inl h) = day h (lt-or-ge 0 m)
         place (inr h) = no-place h
 
-  -- what the day question says of a day
   module _ (d : ℕ) where
-    asked : earliest ≤ d → d ≤ latest → dayReply shoushi d ≡ answer (monthOfDay c d)
-    unfolding dayReply
-    asked h k = simp (le-ltb d earliest h, le-ltb latest d k)
-
-    before : d < earliest → dayReply shoushi d ≡ refused noDay
-    unfolding dayReply
-    before h = simp (lt-ltb d earliest h)
-
-    past : earliest ≤ d → latest < d → dayReply shoushi d ≡ refused noDay
-    unfolding dayReply
-    past h k = simp (le-ltb d earliest h, lt-ltb latest d k)
-
     -- a day that has the date is given it back
     pub date-given : n ≤ lastYear → Dated c d date → hasDate (dayReply shoushi d) n p m ≡ true
     unfolding monthOfDay placed
     date-given h x =
-        let in-range = demand .no-others d date h x in
+        let in-range = no-others c shoushi-lawful shoushi-ends d date h x in
         let same : dateOf c d ≡ date = date-back c shoushi-lawful d date x in
-        ap (λ (r : Reply MonthOfDay). hasDate r n p m) (asked (in-range .0) (in-range .1))
+        ap (λ (r : Reply MonthOfDay). hasDate r n p m) (asked shoushi d (in-range .0) (in-range .1))
         ∙ both-pass _ _
         (both-pass _ _ (eq-eqb _ _ (ap (λ (t : Date). t .year) same)) (eq-eqb _ _ (ap (λ (t : Date). t .place) same)))
         (eq-eqb _ _ (ap (λ (t : Date). t .day) same))
@@ -144,12 +163,10 @@ module _ (n p m : ℕ) where
         (dated c shoushi-lawful d (omega (arith, figures)))
 
     pub given-date : hasDate (dayReply shoushi d) n p m ≡ true → Dated c d date
-    given-date e = early (lt-or-ge d earliest)
-      where
-        late : earliest ≤ d → (latest < d) ⊎ (d ≤ latest) → Dated c d date
-        late h (inl k) = absurd (false≢true (sym (ap (λ (r : Reply MonthOfDay). hasDate r n p m) (past h k)) ∙ e))
-        late h (inr k) = given-inside h k (sym (ap (λ (r : Reply MonthOfDay). hasDate r n p m) (asked h k)) ∙ e)
-
-        early : (d < earliest) ⊎ (earliest ≤ d) → Dated c d date
-        early (inl h) = absurd (false≢true (sym (ap (λ (r : Reply MonthOfDay). hasDate r n p m) (before h)) ∙ e))
-        early (inr h) = late h (lt-or-ge latest d)
+    given-date e =
+        ⊎-elim
+        (λ (h : (earliest ≤ d) × (d ≤ latest)).
+        given-inside (h .0) (h .1) (sym (ap (λ (r : Reply MonthOfDay). hasDate r n p m) (asked shoushi d (h .0) (h .1))) ∙ e))
+        (λ (no : dayReply shoushi d ≡ refused noDay).
+        absurd (false≢true (sym (ap (λ (r : Reply MonthOfDay). hasDate r n p m) no) ∙ e)))
+        (in-or-refused shoushi d)

@@ -1,10 +1,10 @@
 -- The calendar of an epoch is lawful, where lunation 0 is the month of the first solstice and no correction takes a time below 0; so
--- is that of the Shoushi.
+-- is that of the Shoushi, whose ends are computed.
 -- Assumes nothing.
 use mathlib.Core.Path.{_≡_, refl, sym}
 use Prim.Native.Nat.{ℕ, suc, _+_, _*_, _≤_, _<_}
 use native.Mathlib.Omega.{arith}
-use Rattle.measure.specs.Units.{termStep}
+use Rattle.measure.specs.Units.{termStep, lastYear}
 use Rattle.measure.specs.Epoch.{Epoch, shoushi, meanStart}
 use Rattle.measure.specs.Days.{dayOf}
 use Rattle.laws.specs.Law.{taken, law, exact}
@@ -19,6 +19,7 @@ use Rattle.moons.proofs.Corrected.{correctionSize}
 use Rattle.month_law.specs.Calendar.{head}
 use Rattle.month_law.specs.Lawful.{Lawful}
 use Rattle.month_law.proofs.Months.{head-unique}
+use Rattle.month_law.proofs.Demand.{Ends}
 use Rattle.edition.specs.Edition.{middleDay, calendar}
 use Rattle.edition.proofs.MonthLength.{lunation-length}
 
@@ -72,3 +73,7 @@ head-1000 =
     sym
     (head-unique (calendar shoushi) shoushi-lawful 1_000 12_368
     (record { since = omega (arith, figures); until = omega (arith, figures) }))
+
+-- the years 0 to 999 have the days 35 to 365,268 and the lunations before 12,368
+pub shoushi-ends : Ends (calendar shoushi) lastYear 35 365_268 12_368
+shoushi-ends = record { first-day = figures .first-0; next-head = head-1000; next-day = figures .first-1000 }

@@ -6,4 +6,3 @@ pub mod MotionStep
 pub mod CorrectionStep
 pub mod MonthLength
 pub mod Edition
-pub mod Demand

@@ -9,8 +9,8 @@ use Rattle.month_law.specs.Calendar.{Calendar}
 use Rattle.month_law.specs.Demand.{Date, Dated}
 use Rattle.edition.specs.Edition.{calendar}
 use Rattle.month_law.proofs.Days.{dateOf, dated, date-unique}
-use Rattle.edition.proofs.Edition.{figures, shoushi-lawful}
-use Rattle.edition.proofs.Demand.{demand}
+use Rattle.month_law.proofs.Demand.{dates}
+use Rattle.edition.proofs.Edition.{figures, shoushi-lawful, shoushi-ends}
 use Rattle.months.specs.Month.{earliest, latest}
 
 abbrev c : Calendar
@@ -23,6 +23,6 @@ day-dated d h k = dated c shoushi-lawful d (omega (arith, figures))
 -- in an admitted year
 pub day-admitted : (d : ℕ) → earliest ≤ d → d ≤ latest → dateOf c d .year ≤ lastYear
 day-admitted d h k =
-    let one = demand .dates d h k in
+    let one = dates c shoushi-lawful shoushi-ends d h k in
     let same : dateOf c d ≡ one .it = date-unique c shoushi-lawful d (dateOf c d) (one .it) (day-dated d h k) (one .such .1) in
     omega (arith, one .such .0, ap (λ (t : Date). t .year) same)

@@ -32,7 +32,8 @@ mark-chosen true n = refl
 mark-chosen false n = refl
 
 module _ (c : Calendar) where
-  by-kind : (n p : ℕ) → recordBy (c .first (head c n + p)) (c .first (suc (head c n + p))) (kindAt c n p) ≡ recordAt c n p
+  -- the record at a place is told by the kind there
+  pub by-kind : (n p : ℕ) → recordBy (c .first (head c n + p)) (c .first (suc (head c n + p))) (kindAt c n p) ≡ recordAt c n p
   unfolding kindAt recordAt
   by-kind n p = rw (number-chosen (leapAt c n p) (numberAt c n p), mark-chosen (leapAt c n p) (numberAt c n p))
 
