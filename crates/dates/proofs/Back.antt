@@ -10,7 +10,7 @@ use borrow.Author.Tests.{lt-ltb, le-ltb, le-leb, lt-leb, eq-eqb, ne-eqb, eqb-tru
 use Rattle.measure.specs.Choice.{_=?_}
 use Rattle.measure.specs.Reply.{Reply, answer, refused, outside, noDay}
 use Rattle.measure.specs.Units.{lastYear}
-use Rattle.measure.specs.Epoch.{Epoch, shoushi}
+use Rattle.measure.specs.Epoch.{shoushi}
 use Rattle.measure.proofs.Choice.{lt-or-ge, both-pass, left-passes, right-passes}
 use Rattle.month_law.specs.Calendar.{Calendar, lengthOf, head, monthsIn}
 use Rattle.month_law.specs.Demand.{Date, Dated}
@@ -19,42 +19,11 @@ use Rattle.month_law.proofs.Days.{dateOf, dated, date-back}
 use Rattle.month_law.proofs.Demand.{no-others}
 use Rattle.edition.proofs.Edition.{figures, shoushi-lawful, shoushi-ends}
 use Rattle.months.specs.Month.{MonthOfDay, earliest, latest, placed, monthOfDay, dayReply}
+use Rattle.months.proofs.DayReply.{day-answered, in-or-refused}
 use Rattle.dates.specs.Date.{dayAt, backReply, hasDate}
 
 abbrev c : Calendar
 c = calendar shoushi
-
--- what the day question says of a day
-module _ (e : Epoch) (d : ℕ) where
-  pub asked : earliest ≤ d → d ≤ latest → dayReply e d ≡ answer (monthOfDay (calendar e) d)
-  unfolding dayReply
-  asked h k = simp (le-ltb d earliest h, le-ltb latest d k)
-
-  before : d < earliest → dayReply e d ≡ refused noDay
-  unfolding dayReply
-  before h = simp (lt-ltb d earliest h)
-
-  past : earliest ≤ d → latest < d → dayReply e d ≡ refused noDay
-  unfolding dayReply
-  past h k = simp (le-ltb d earliest h, lt-ltb latest d k)
-
-  -- it is one of the calendar, or it is refused
-  in-or-refused : ((earliest ≤ d) × (d ≤ latest)) ⊎ (dayReply e d ≡ refused noDay)
-  in-or-refused = early (lt-or-ge d earliest)
-    where
-      late : earliest ≤ d → (latest < d) ⊎ (d ≤ latest) → ((earliest ≤ d) × (d ≤ latest)) ⊎ (dayReply e d ≡ refused noDay)
-      late h (inl k) = inr (past h k)
-      late h (inr k) = inl (h, k)
-
-      early : (d < earliest) ⊎ (earliest ≤ d) → ((earliest ≤ d) × (d ≤ latest)) ⊎ (dayReply e d ≡ refused noDay)
-      early (inl h) = inr (before h)
-      early (inr h) = late h (lt-or-ge latest d)
-
-  -- so no other day is answered
-  pub answered-in : (m : MonthOfDay) → dayReply e d ≡ answer m → (earliest ≤ d) × (d ≤ latest)
-  answered-in m r =
-      ⊎-elim (λ (h : (earliest ≤ d) × (d ≤ latest)). h)
-      (λ (no : dayReply e d ≡ refused noDay). let z : _≡_ {A = ℕ} 0 1 = cc in omega arith) in-or-refused
 
 -- the three tests of a date
 all-equal : (x : MonthOfDay) (n p m : ℕ) → hasDate (answer x) n p m ≡ true → (x .year ≡ n) × (x .place ≡ p) × (x .day ≡ m)
@@ -149,7 +118,7 @@ module _ (n p m : ℕ) where
     date-given h x =
         let in-range = no-others c shoushi-lawful shoushi-ends d date h x in
         let same : dateOf c d ≡ date = date-back c shoushi-lawful d date x in
-        ap (λ (r : Reply MonthOfDay). hasDate r n p m) (asked shoushi d (in-range .0) (in-range .1))
+        ap (λ (r : Reply MonthOfDay). hasDate r n p m) (day-answered shoushi d (in-range .0) (in-range .1))
         ∙ both-pass _ _
         (both-pass _ _ (eq-eqb _ _ (ap (λ (t : Date). t .year) same)) (eq-eqb _ _ (ap (λ (t : Date). t .place) same)))
         (eq-eqb _ _ (ap (λ (t : Date). t .day) same))
@@ -166,7 +135,7 @@ module _ (n p m : ℕ) where
     given-date e =
         ⊎-elim
         (λ (h : (earliest ≤ d) × (d ≤ latest)).
-        given-inside (h .0) (h .1) (sym (ap (λ (r : Reply MonthOfDay). hasDate r n p m) (asked shoushi d (h .0) (h .1))) ∙ e))
+        given-inside (h .0) (h .1) (sym (ap (λ (r : Reply MonthOfDay). hasDate r n p m) (day-answered shoushi d (h .0) (h .1))) ∙ e))
         (λ (no : dayReply shoushi d ≡ refused noDay).
         absurd (false≢true (sym (ap (λ (r : Reply MonthOfDay). hasDate r n p m) no) ∙ e)))
         (in-or-refused shoushi d)

@@ -18,7 +18,7 @@ use Rattle.month_law.proofs.Demand.{Ends, dates, no-others}
 use Rattle.edition.proofs.Edition.{shoushi-lawful, shoushi-ends}
 use Rattle.months.specs.Month.{MonthOfDay, monthOfDay, dayReply}
 use Rattle.dates.specs.Date.{backReply, hasDate}
-use Rattle.dates.proofs.Back.{asked, answered-in}
+use Rattle.months.proofs.DayReply.{day-answered, answered-in}
 use Rattle.dates.proofs.RoundTrip.{day-there-and-back, place-there-and-back}
 use Rattle.demand.specs.Demand.{shownOn, firstIn, Demand}
 use Rattle.demand.proofs.Names.{names-run}
@@ -85,7 +85,7 @@ module _ (e : Epoch) (ok : Lawful (calendar e)) {last earliest latest beyond : �
 shoushi-replies : Replies shoushi lastYear 35 365_268
 shoushi-replies =
     record {
-      answers = asked shoushi;
+      answers = day-answered shoushi;
       no-others = answered-in shoushi;
       day-back = day-there-and-back;
       place-back = place-there-and-back;
