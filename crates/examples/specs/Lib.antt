@@ -1,4 +1,5 @@
 pub mod Examples
 pub mod Others
+pub mod Months
 pub mod Printed
 pub mod Desk
