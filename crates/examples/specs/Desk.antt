@@ -6,23 +6,30 @@ use Prim.Native.String.{String}
 use Rattle.bytes.specs.Bytes.{indexOf, indexAfter}
 use Rattle.decimals.specs.Number.{digits, value, isNumber, numberOf}
 use Rattle.words.specs.Numbers.{endOf, partOf, restOf, numbersOf}
+use Rattle.measure.specs.Row.{listed}
 use Rattle.measure.specs.Epoch.{shoushi}
 use Rattle.remainders.specs.Hours.{hourReply, doubleHour, ke}
 use Rattle.remainders.specs.ExtraDays.{extraReply, extraDay}
+use Rattle.signed.specs.Signed.{integer}
+use Rattle.laws.specs.Law.{law, taken as lawTaken}
+use Rattle.solar.specs.Solar.{fastAt, slowAt, solarAtReply}
+use Rattle.lunar.specs.Lunar.{lunarMagnitude, lunarAtReply}
 use Rattle.motions.specs.Motion.{motionAtReply}
 use Rattle.seasons.specs.Solstice.{solsticeReply, solstice}
-use Rattle.seasons.specs.Terms.{termReply}
+use Rattle.seasons.specs.Terms.{term, termReply, termList, termsReply}
 use Rattle.questions.specs.Text.{same}
 use Rattle.words.specs.Ascii.{bytesOf}
-use Rattle.questions.specs.Told.{Told, refusal, nothing, numbers, moment, year, years, help, signed, month, constants}
-use Rattle.questions.specs.Question.{_among_, alone, withOne, withTwo, lunarIn, motionIn, withHalf, wordOf, afterWord, replyTo}
+use Rattle.questions.specs.Told.{Told, refusal, nothing, numbers, moment, terms, year, years, help, signed, month, constants}
+use Rattle.questions.specs.Question.{_among_, alone, withOne, withTwo, solarIn, lunarIn, motionIn, withHalf, wordOf, afterWord, replyTo}
 use lib.IntN.{pos, negsuc}
 use Rattle.measure.specs.Reply.{answer, refused}
 use Rattle.kinds.specs.Kind.{leap}
 use Rattle.texts.specs.Text.{decimalIn, decimal, piece, taken, filled}
 use Rattle.line_texts.specs.LineText.{blankHoles, numberHoles, refusalText, numbersText, signedText, monthText, momentText}
-use Rattle.list_texts.specs.ListText.{recordHoles, recordsHoles, recordsText}
-use Rattle.replies.specs.ReplyText.{constantsText, replyText}
+use Rattle.list_texts.specs.ListText.{recordHoles, recordsHoles, listText, recordsText, termsText, yearText, yearsText}
+use Rattle.replies.specs.ReplyText.{constantsText, helpText, replyText}
+use Rattle.lists.specs.Lists.{runAsked, runReply}
+use Rattle.examples.specs.Months.{months, list-0, list-5, list-6}
 
 -- a text is its bytes, as a program holds them
 bytes : bytesOf "solstice" ≡ 115 ∷ 111 ∷ 108 ∷ 115 ∷ 116 ∷ 105 ∷ 99 ∷ 101 ∷ []
@@ -40,8 +47,23 @@ answered :
     × ("extra 0" gets nothing)
     × ("year 999" gets year 999)
     × ("years 1 019" gets years 1 19)
+    × ("terms 5" gets terms 5)
+    × ("constants" gets constants)
 unfolding digits value isNumber numberOf indexOf indexAfter endOf partOf restOf numbersOf hourReply doubleHour ke extraReply extraDay solsticeReply solstice same _among_ alone withOne withTwo wordOf afterWord replyTo
-answered = (refl, refl, refl, refl, refl, refl, refl)
+answered = (refl, refl, refl, refl, refl, refl, refl, refl, refl)
+
+-- a month, what is ahead and what is behind
+day-answered : "day 340" gets month (record { kind = leap 8; year = 0; place = 10; day = 12; first = 329; length = 30 })
+unfolding digits value isNumber numberOf indexOf indexAfter endOf partOf restOf numbersOf same _among_ withOne wordOf afterWord replyTo
+day-answered = simp (months .days .2)
+
+signed-answered :
+    ("solar-at fast 8890922500" gets signed (pos 240_142_279))
+    × ("solar-at slow 9371202500" gets signed (negsuc 240_132_543))
+    × ("lunar-at quick 3" gets signed (pos 3))
+    × ("lunar-at tardy 688524590" gets signed (negsuc 542_337_599))
+unfolding digits value isNumber numberOf indexOf indexAfter endOf partOf restOf numbersOf law lawTaken fastAt slowAt solarAtReply lunarMagnitude lunarAtReply integer same _among_ solarIn lunarIn withHalf wordOf afterWord replyTo
+signed-answered = (refl, refl, refl, refl)
 
 -- by the calendar, where the question is one
 outside : ("term 1000 0" gets refusal 1) × ("motion-at quick 168" gets refusal 2)
@@ -100,7 +122,28 @@ late-told : recordsText (refused 1) [] ≡ bytesOf "refused 1\n"
 unfolding recordsText refusalText filled piece taken decimal decimalIn
 late-told = refl
 
+-- the terms of year 5, the months of year 0, and those of years 5 and 6
+terms-told : replyText (terms 5)
+    ≡ bytesOf "188127250000 189649093750 191170937500 192692781250 194214625000 195736468750 197258312500 198780156250 200302000000 201823843750 203345687500 204867531250 206389375000 207911218750 209433062500 210954906250 212476750000 213998593750 215520437500 217042281250 218564125000 220085968750 221607812500 223129656250\n"
+unfolding replyText termsText listText termsReply termList listed term solstice numbersText numberHoles blankHoles filled piece taken decimal decimalIn
+terms-told = refl
+
+year-told : replyText (year 0)
+    ≡ bytesOf "35:29:11:0 64:30:12:0 94:29:1:0 123:30:2:0 153:29:3:0 182:29:4:0 211:30:5:0 241:29:6:0 270:30:7:0 300:29:8:0 329:30:8:1 359:30:9:0 389:30:10:0\n"
+unfolding list-0 replyText yearText recordsText recordsHoles recordHoles filled piece taken decimal decimalIn
+year-told = simp (months .lists .0, months .lists .3)
+
+years-told : replyText (years 5 2)
+    ≡ bytesOf "1865:29:11:0 1894:30:12:0 1924:30:1:0 1954:30:2:0 1984:29:3:0 2013:30:4:0 2043:29:5:0 2072:30:6:0 2102:29:7:0 2131:30:8:0 2161:29:9:0 2190:29:10:0 2219:30:11:0 2249:29:12:0 2278:30:1:0 2308:30:2:0 2338:29:2:1 2367:30:3:0 2397:30:4:0 2427:29:5:0 2456:30:6:0 2486:29:7:0 2515:30:8:0 2545:29:9:0 2574:30:10:0\n"
+unfolding list-5 list-6 replyText yearsText runReply runAsked recordsText recordsHoles recordHoles filled piece taken decimal decimalIn
+years-told = simp (months .runs .6, months .runs .7)
+
 constants-told : replyText constants
     ≡ bytesOf "day=100000000 fen=10000 miao=100 year=36524250000 half-year=18262125000 month=2953059300 quarter=738264825 term=1521843750 pentad=507281250 earth=304368750 anomalistic-month=2755460000 anomalistic-half=1377730000 solstice-epoch=5506000000 leap-epoch=2018500000 anomaly-epoch=1319040000\n"
 unfolding replyText constantsText filled piece taken decimal decimalIn
 constants-told = refl
+
+help-told : replyText help
+    ≡ bytesOf "questions: constants, solstice N, term N I, pentad N I P, earth N I, terms N, mean L Q, true L Q, solar L Q, lunar L Q, correction L Q, motion L Q, solar-at fast|slow T, lunar-at quick|tardy T, motion-at quick|tardy K, name D, hour R, extra R, vanishing R, head N, day D, back N P M, year N, years N C, help\n"
+unfolding replyText helpText
+help-told = refl
