@@ -27,11 +27,10 @@ use Rattle.dates.specs.Date.{dayAt, backReply}
 use Rattle.year_rows.specs.Records.{recordAt, recordsOf}
 use Rattle.lists.specs.Lists.{runOf, monthsInRun, runAsked, listReply, runReply}
 use Rattle.records.specs.MonthRecords.{inRecords, over, rowAfter}
-use Rattle.day_lines.specs.Digits.{digitOf}
-use Rattle.day_lines.specs.DayLine.{spelled, dayAsked}
-use Rattle.reply_lines.specs.Digits.{digitByte, digitsOf}
-use Rattle.reply_lines.specs.ReplyLine.{lineOf}
-use Rattle.lines.specs.Line.{lineReply, lastLine, outputFrom, output}
+use Rattle.frames.specs.Digits.{digitByte, digitsOf, digitOf, spelled}
+use Rattle.frames.specs.DayLine.{dayAsked}
+use Rattle.frames.specs.MonthLine.{monthLine, fieldsIn, readFields, refusalLine, lineOf}
+use Rattle.lines.specs.Line.{lineReply, replyLine, lastLine, outputFrom, output}
 use Rattle.record_bytes.specs.Bytes.{lowFirst, bytesOf}
 use Rattle.viewer.specs.Room.{roomIn}
 use Rattle.viewer.specs.Told.{dayTold, countTold}
@@ -104,6 +103,12 @@ pub record Months : Type 0 where
       × ("0002/\n0002:\n0002@\n0002G\n" prints "E5\nE5\nE5\nE5\n")
   -- the first day and the day before it, and the leap month
   day-lines : ("00022\n00023\n" prints "E3\n000B0000231D\n") × ("00154\n" prints "00081001491E\n")
+  -- a month line taken apart: its five fields, and what is none
+  fields : (readFields 5 (ascii "00081001491E") ≡ answer (record { year = 0; number = 8; mark = 1; first = 329; length = 30 }))
+      × (readFields 5 (ascii "3E7A0592B71E") ≡ answer (record { year = 999; number = 10; mark = 0; first = 365_239; length = 30 }))
+      × (readFields 6 (ascii "000810001491E") ≡ answer (record { year = 0; number = 8; mark = 1; first = 329; length = 30 }))
+      × (readFields 5 (ascii "00081001491") ≡ refused 5)
+      × (readFields 5 (ascii "00081001491e") ≡ refused 5)
   -- the last line may lack its end, and nothing follows a final one
   ends : ("00154" prints "00081001491E\n") × ("00154\n\n" prints "00081001491E\nE5\n") × ("" prints "")
   viewer : (dayTold (dayReply shoushi 340)
@@ -115,7 +120,7 @@ pub record Months : Type 0 where
   bytes : (bytesOf (365_239 ∷ 30 ∷ []) ≡ 0xB7 ∷ 0x92 ∷ 0x05 ∷ 0x00 ∷ 0x1E ∷ 0x00 ∷ 0x00 ∷ 0x00 ∷ []) × (roomIn told ≡ 2)
 
 pub months : Months
-unfolding asked month-line told list-0 list-5 list-6 solstice term taken law exact fastAt slowAt solar solarTime lunarMagnitude lunar anomaly wholeLaw motionAt motionInRow rowOf motion mean corrected correction correctionOf moved trueMoon firstDay seek count nameOf monthOf head yearOf held leapAt numberAt middleDay headReply kindAt placed monthOfDay dayAt dayReply backReply recordAt recordsOf inRecords over runOf monthsInRun listReply runAsked runReply digitByte digitsOf digitOf spelled dayAsked lineReply lineOf lastLine outputFrom output lowFirst bytesOf roomIn
+unfolding asked month-line told list-0 list-5 list-6 solstice term taken law exact fastAt slowAt solar solarTime lunarMagnitude lunar anomaly wholeLaw motionAt motionInRow rowOf motion mean corrected correction correctionOf moved trueMoon firstDay seek count nameOf monthOf head yearOf held leapAt numberAt middleDay headReply kindAt placed monthOfDay dayAt dayReply backReply recordAt recordsOf inRecords over runOf monthsInRun listReply runAsked runReply digitByte digitsOf digitOf spelled dayAsked monthLine fieldsIn readFields refusalLine lineOf lineReply replyLine lastLine outputFrom output lowFirst bytesOf roomIn
 months =
     record {
       heads = (refl, refl, refl, refl);
@@ -130,6 +135,7 @@ months =
       lines = refl;
       bad-lines = (refl, refl, refl, refl, refl);
       day-lines = (refl, refl);
+      fields = (refl, refl, refl, refl, refl);
       ends = (refl, refl, refl);
       viewer = (refl, refl, refl, refl);
       bytes = (refl, refl);
@@ -143,5 +149,5 @@ last-day =
     simp (months .last .0, months .last .1, months .last .2, h, months .heads .2, months .heads .3)
 
 last-line : "592D4\n592D5\n" prints "3E7A0592B71E\nE3\n"
-unfolding digitByte digitsOf digitOf spelled dayAsked lineReply lineOf lastLine outputFrom output
+unfolding digitByte digitsOf digitOf spelled dayAsked monthLine fieldsIn readFields refusalLine lineOf lineReply replyLine lastLine outputFrom output
 last-line = simp (last-day, months .days .3)

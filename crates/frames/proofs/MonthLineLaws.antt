@@ -15,7 +15,6 @@ use Rattle.measure.specs.Reply.{Reply, answer, refused, badLine}
 use Rattle.months.specs.Month.{MonthOfDay}
 use Rattle.frames.specs.Digits.{digitsOf, spelled, numberOf}
 use Rattle.frames.specs.MonthLine.{Fields, shown, monthLine, monthDigits, fieldsIn, fieldsOf, readFields, Fits, refusalLine, lineOf}
-
 use Rattle.frames.proofs.DigitLaws.{length-digits, spelled-append, digits-read, number-back, digits-split, digits-last, digits-back, number-small, spelled-only}
 
 -- the fields as one number; p is 16 ^ w

@@ -2,7 +2,7 @@
 -- Assumes nothing.
 use mathlib.Core.Bool.{Bool, true, false}
 use mathlib.Core.Logic.{⊎-elim}
-use mathlib.Core.Path.{_≡_, _∙_, refl, ap, subst⁻¹}
+use mathlib.Core.Path.{_≡_, _∙_, refl, ap, subst, subst⁻¹}
 use mathlib.Core.List.{List, [], _∷_, _++_, append-assoc, append-nil}
 use Prim.Native.Nat.{ℕ, zero, suc, _+_, _-_, _*_, _≤_, _<_}
 use native.Mathlib.Nat.{not-suc-le-zero, suc-add}
@@ -21,10 +21,10 @@ use Rattle.months.specs.Month.{MonthOfDay, dayReply}
 use Rattle.months.proofs.DayReply.{day-cases}
 use Rattle.frames.specs.LineEnds.{lineEnd, lineLength, restAfter}
 use Rattle.frames.specs.DayLine.{dayDigits, dayAsked}
-use Rattle.frames.specs.MonthLine.{lineOf}
+use Rattle.frames.specs.MonthLine.{shown, monthLine, readFields, lineOf}
 use Rattle.frames.proofs.LineEndLaws.{length-most, rest-length}
 use Rattle.frames.proofs.DayLineLaws.{other-length, only-bad}
-use Rattle.frames.proofs.MonthLineLaws.{month-line-length, refusal-line-length}
+use Rattle.frames.proofs.MonthLineLaws.{month-line-length, refusal-line-length, written-read}
 use Rattle.frames.proofs.FitLaws.{LineFits, reply-fits}
 use Rattle.lines.specs.Line.{lineReply, replyLine, lastLine, outputFrom, output, replyRoom, outputReply}
 
@@ -57,6 +57,14 @@ line-fits line = fits (dayAsked dayDigits line) refl
 pub written-as : (e : Epoch) (line : List ℕ) (r : Reply MonthOfDay) → lineReply e line ≡ r → replyLine e line ≡ lineOf dayDigits r
 unfolding replyLine
 written-as e line r h = ap (lineOf dayDigits) h
+
+-- what is written for a month reads back to its fields
+pub reply-back : (line : List ℕ) (m : MonthOfDay) → lineReply shoushi line ≡ answer m
+    → (replyLine shoushi line ≡ monthLine dayDigits (shown m) ++ (lineEnd ∷ []))
+    × (readFields dayDigits (monthLine dayDigits (shown m)) ≡ answer (shown m))
+unfolding lineOf
+reply-back line m h =
+    (written-as shoushi line (answer m) h, written-read dayDigits (shown m) (subst (LineFits dayDigits) h (line-fits line)))
 
 bad-length : (e : Epoch) (line : List ℕ) → lineReply e line ≡ refused badLine → length (replyLine e line) ≡ 3
 bad-length e line h = ap length (written-as e line (refused badLine) h) ∙ refusal-line-length dayDigits badLine
