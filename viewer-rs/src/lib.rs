@@ -1,6 +1,7 @@
 //! The Shoushi calendar for Rust: the month of a day and the months of a year, as the proved functions
 //! of the crate `viewer` answer them, and their presentation as text and as a page.
 
+pub mod civil;
 pub mod command;
 pub mod names;
 pub mod page;

@@ -87,9 +87,6 @@ pub const TERMS: [Term; 24] = [
     term("大雪", "Daxue", "greater snow"),
 ];
 
-/// Year 0 is a xinsi year.
-const YEAR_ZERO: u64 = 17;
-
 const fn term(chinese: &'static str, romanised: &'static str, english: &'static str) -> Term {
     Term {
         chinese,
@@ -99,7 +96,7 @@ const fn term(chinese: &'static str, romanised: &'static str, english: &'static 
 }
 
 /// Returns the name among the sixty at a count from a jiazi.
-fn sixty(count: u64) -> Name {
+pub fn sixty(count: u64) -> Name {
     let stem = STEMS[(count % 10) as usize];
     let branch = BRANCHES[(count % 12) as usize];
     Name {
@@ -113,9 +110,15 @@ pub fn of_day(day: u64) -> Name {
     sixty(day)
 }
 
-/// Returns the sixty-name of a year.
-pub fn of_year(year: u64) -> Name {
-    sixty(year + YEAR_ZERO)
+/// Returns a number from 1 to 99 in Chinese: 八, 十, 十八, 二十, 二十一.
+pub fn numeral(number: u64) -> String {
+    const DIGITS: [&str; 10] = ["", "一", "二", "三", "四", "五", "六", "七", "八", "九"];
+    let ones = DIGITS[(number % 10) as usize];
+    match number / 10 {
+        0 => ones.to_string(),
+        1 => format!("十{ones}"),
+        tens => format!("{}十{ones}", DIGITS[tens as usize]),
+    }
 }
 
 /// Returns the name of a month.

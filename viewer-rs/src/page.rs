@@ -1,5 +1,6 @@
 //! A year as a page of HTML that needs nothing besides itself.
 
+use crate::civil::CivilYear;
 use crate::names::{self, Name, TERMS};
 use crate::text::western_note;
 use crate::{month_of, terms, western, western_year, Month, MonthOfDay};
@@ -9,7 +10,7 @@ const STYLE: &str = include_str!("page.css");
 /// Returns the page of a year.
 pub fn year(year: u64, months: &[Month]) -> String {
     let western = western_year(year);
-    let name = names::of_year(year);
+    let name = CivilYear(western_year(year)).name();
     let falling = falling(year);
     let rows: String = months.iter().map(|month| row(month, &falling)).collect();
     let listed: String = (0..=terms::LAST).map(|term| listed(year, term)).collect();

@@ -1,5 +1,6 @@
 //! Replies as text for a terminal.
 
+use crate::civil::CivilYear;
 use crate::names::{self, Name};
 use crate::{western, western_year, Month, MonthOfDay};
 
@@ -19,7 +20,7 @@ pub fn day(day: u64, reply: &MonthOfDay) -> String {
          \x20 courtesy   {date}, {} calendar\n",
         both(&names::of_day(day)),
         western_year(year),
-        both(&names::of_year(year)),
+        both(&CivilYear(western_year(year)).name()),
         number(month),
         both(&names::of_month(month)),
         reply.day,
@@ -58,7 +59,7 @@ pub fn year(year: u64, months: &[Month]) -> String {
     format!(
         "Year {year} ({}), {}: {} months, {days} days\n\n{}\n{}\n",
         western_year(year),
-        both(&names::of_year(year)),
+        both(&CivilYear(western_year(year)).name()),
         months.len(),
         aligned(&rows),
         western_note(months),

@@ -1,5 +1,6 @@
 //! Names, terms and Western dates.
 
+use lengadriu_viewer::civil::CivilYear;
 use lengadriu_viewer::western::{date_of, Date};
 use lengadriu_viewer::{months_of, names, terms};
 use second::calendar;
@@ -40,8 +41,8 @@ fn there_are_sixty_names() {
     assert_eq!(both(0), ("甲子".into(), "jiazi".into()));
     assert_eq!(both(55), ("己未".into(), "jiwei".into()));
     assert_eq!(both(59), ("癸亥".into(), "guihai".into()));
-    assert_eq!(names::of_year(0).romanised, "xinsi");
-    assert_eq!(names::of_year(3).romanised, "jiashen");
+    assert_eq!(CivilYear(1281).name().romanised, "xinsi");
+    assert_eq!(CivilYear(1284).name().romanised, "jiashen");
 }
 
 #[test]
