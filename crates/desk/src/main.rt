@@ -1,5 +1,5 @@
-// The desk: answers the calendar's questions, from its arguments as one line when it has any, else one a line from standard input, which comes by
-// blocks. Each line is answered as it ends.
+// The desk: answers the calendar's questions, from its arguments as one line when it has any, else one a line from standard input.
+// The input comes by blocks, and each line is answered as it ends.
 use frames::LINE_END;
 use libc::STDERR_FILENO;
 use libc::STDIN_FILENO;
