@@ -15,6 +15,13 @@ const JIAZI: u64 = 4;
 #[derive(Clone, Copy, Debug, PartialEq, Eq, PartialOrd, Ord)]
 pub struct CivilYear(pub u64);
 
+/// The months of one civil year that stand in the list of a solstice year.
+#[derive(Clone, Copy, Debug, PartialEq, Eq)]
+pub struct Part<'a> {
+    pub year: CivilYear,
+    pub months: &'a [Month],
+}
+
 /// A year of an era.
 #[derive(Clone, Copy, Debug, PartialEq, Eq)]
 pub struct EraYear {
@@ -68,7 +75,7 @@ pub const ERAS: [Era; 31] = [
 ];
 
 /// The last civil year whose era is told.
-const LAST_TOLD: u64 = 1644;
+pub const LAST_TOLD: u64 = 1644;
 
 const fn era(year: u64, month: u32, chinese: &'static str, romanised: &'static str) -> Era {
     Era {
@@ -115,6 +122,51 @@ impl CivilYear {
     }
 }
 
+/// Returns the two parts of a solstice year's list: months 11 and 12, which end a civil year, and months 1 to 10, which
+/// begin the next.
+pub fn parts(solstice_year: u64, months: &[Month]) -> [Part<'_>; 2] {
+    let begun = CivilYear(FIRST + solstice_year);
+    let ending = months.iter().take_while(|month| month.number > 10).count();
+    let (before, after) = months.split_at(ending);
+    [(CivilYear(begun.0 - 1), before), (begun, after)].map(|(year, months)| Part { year, months })
+}
+
+/// Returns the Western years in which the two civil years of a solstice year began: 1280/81, and 1299/1300 where a
+/// century begins.
+pub fn span(solstice_year: u64) -> String {
+    let begun = FIRST + solstice_year;
+    match begun % 100 {
+        0 => format!("{}/{begun}", begun - 1),
+        last => format!("{}/{last:02}", begun - 1),
+    }
+}
+
+impl Part<'_> {
+    /// Returns the eras of its months, each with the number of the first month that has it, where they are known.
+    pub fn eras(&self) -> Vec<(u32, EraYear)> {
+        let mut eras: Vec<(u32, EraYear)> = Vec::new();
+        for month in self.months {
+            if let Some(era) = self.year.era(month.number) {
+                if eras.last().map(|last| last.1) != Some(era) {
+                    eras.push((month.number, era));
+                }
+            }
+        }
+        eras
+    }
+
+    /// Returns its eras in words, each name as it is to be shown: the first, and each later one with the month from which it
+    /// counts.
+    pub fn eras_told(&self, shown: impl Fn(&Name) -> String) -> Option<String> {
+        let mut eras = self.eras().into_iter();
+        let mut told = shown(&eras.next()?.1.name());
+        for (month, era) in eras {
+            told += &format!(", from month {month} {}", shown(&era.name()));
+        }
+        Some(told)
+    }
+}
+
 impl EraYear {
     /// Returns it as a sheet prints it, 至元十八年 with 元年 for the first, and romanised.
     pub fn name(&self) -> Name {
@@ -154,6 +206,37 @@ mod tests {
             assert_eq!(year, CivilYear(civil), "month {number}, leap {leap}");
             assert_eq!(year.solstice_year(number), Some(2));
         }
+    }
+
+    #[test]
+    fn the_span_of_a_solstice_year_names_both_civil_years() {
+        assert_eq!(span(0), "1280/81");
+        assert_eq!(span(19), "1299/1300");
+        assert_eq!(span(20), "1300/01");
+        assert_eq!(span(719), "1999/2000");
+        assert_eq!(span(999), "2279/80");
+    }
+
+    #[test]
+    fn an_era_that_begins_within_a_year_is_told_with_its_month() {
+        let months: Vec<Month> = [11, 12, 1, 2, 3, 4, 5, 6, 7, 8, 9, 10]
+            .map(|number| Month {
+                first: 0,
+                length: 29,
+                number,
+                leap: false,
+            })
+            .to_vec();
+        let told =
+            |year| parts(year, &months).map(|part| part.eras_told(|era| era.chinese.clone()));
+        let some = |text: &str| Some(text.to_string());
+        let changes = "泰定五年, from month 2 致和元年, from month 9 天曆元年";
+        assert_eq!(told(47), [some("泰定四年"), some(changes)]);
+        assert_eq!(told(48), [some("天曆元年"), some("天曆二年")]);
+        assert_eq!(told(54), [some("元統二年"), some("元統三年")]);
+        assert_eq!(told(55), [some("至元元年"), some("至元二年")]);
+        assert_eq!(told(364), [some("崇禎十七年"), None]);
+        assert_eq!(told(365), [None, None]);
     }
 
     #[test]
