@@ -5,15 +5,18 @@ use crate::{month_of, months_of, page, text, Refusal};
 pub const HELP: &str = "\
 The Shoushi calendar of 1281, asked through its proved functions.
 
-  viewer day D     the month in which running day D lies, 35 to 365268
-  viewer year N    the months of year N as a table; year 0 is 1281, the last is 999
-  viewer page N    the same year as a page of HTML, to print or for a phone:
+  viewer day D     the civil year and the month in which running day D lies, 35 to 365268
+  viewer year N    the months of solstice year N as a table; N is 0 (1280/81) to 999 (2279/80)
+  viewer page N    the same solstice year as a page of HTML, to print or for a phone:
                    viewer page 0 > year.html
   viewer help      this text
 
-Running day 0 is a jiazi day, and day 35 begins month 11 of year 0. Western dates are a courtesy, Julian up
-to 4 October 1582 and Gregorian from 15 October 1582 on. What is refused is told in one sentence with the
-refusal's number, and the exit status is then 2.
+The solstice year (歲) runs from winter solstice to winter solstice and its list begins with months 11 and 12
+of the civil year before, while the civil year (年), by which a sheet is dated, begins with month 1 and is
+named by the Western year in which it began. Running day 0 is a jiazi day, and day 35 begins month 11 of
+civil year 1280, the first month of solstice year 0. Eras are a courtesy, told up to 1644. Western dates are a
+courtesy, Julian up to 4 October 1582 and Gregorian from 15 October 1582 on. What is refused is told in one
+sentence with the refusal's number, and the exit status is then 2.
 ";
 
 const MALFORMED: u32 = 5;
@@ -22,8 +25,8 @@ const MALFORMED: u32 = 5;
 pub fn reply(words: &[&str]) -> Result<String, String> {
     match words {
         ["day", day] => about("Day", day, |d| Ok(text::day(d, &month_of(d)?))),
-        ["year", year] => about("Year", year, |n| Ok(text::year(n, &months_of(n)?))),
-        ["page", year] => about("Year", year, |n| Ok(page::year(n, &months_of(n)?))),
+        ["year", year] => about("Solstice year", year, |n| Ok(text::year(n, &months_of(n)?))),
+        ["page", year] => about("Solstice year", year, |n| Ok(page::year(n, &months_of(n)?))),
         ["help" | "--help" | "-h"] => Ok(HELP.to_string()),
         [] => Err(malformed("No question was asked")),
         _ => Err(malformed(&format!("‘{}’ is no question", words.join(" ")))),

@@ -1,5 +1,6 @@
-//! The Shoushi calendar for Rust: the month of a day and the months of a year, as the proved functions
-//! of the crate `viewer` answer them, and their presentation as text and as a page.
+//! The Shoushi calendar for Rust: the month of a day and the months of a solstice year, as the proved
+//! functions of the crate `viewer` answer them, and their presentation as text and as a page. Every year that
+//! is a number here is a solstice year; the civil year stands in `civil`.
 
 pub mod civil;
 pub mod command;
@@ -16,10 +17,7 @@ use std::fmt;
 pub const YEAR_ROOM: usize = 13;
 pub const RECORD_BYTES: usize = 16;
 
-/// Western year in which year 0 lies but for its first weeks.
-const FIRST_WESTERN_YEAR: u64 = 1281;
-
-/// A month of a year's list.
+/// A month of a solstice year's list.
 #[derive(Clone, Copy, Debug, PartialEq, Eq)]
 pub struct Month {
     /// Running day on which it begins.
@@ -34,8 +32,9 @@ pub struct Month {
 /// The month of a day, and where the two stand.
 #[derive(Clone, Copy, Debug, PartialEq, Eq)]
 pub struct MonthOfDay {
+    /// Solstice year in whose list the month stands; `civil::CivilYear::of_day` has the civil year.
     pub year: u16,
-    /// Place of the month in its year's list, counted from 0.
+    /// Place of the month in that list, counted from 0.
     pub place: u8,
     /// Day of the month, counted from 1.
     pub day: u8,
@@ -49,7 +48,7 @@ pub struct Refusal(pub u32);
 impl fmt::Display for Refusal {
     fn fmt(&self, f: &mut fmt::Formatter<'_>) -> fmt::Result {
         let why = match self.0 {
-            1 => "it lies outside the calendar's years, 0 to 999",
+            1 => "it lies outside the calendar's solstice years, 0 to 999",
             3 => "it lies outside the calendar's days, 35 to 365,268",
             4 => "the row has room for fewer than 13 records",
             _ => "the question is malformed",
@@ -79,7 +78,7 @@ pub fn month_of(day: u64) -> Result<MonthOfDay, Refusal> {
     })
 }
 
-/// Returns how many records of a year's list were written from the start of a lent row of bytes. What
+/// Returns how many records of a solstice year's list were written from the start of a lent row of bytes. What
 /// lies past them keeps its contents, and a refusal leaves the whole row.
 pub fn write_year(row: &mut [u8], year: u64) -> Result<usize, Refusal> {
     let reply = raw::year(row, year);
@@ -89,7 +88,7 @@ pub fn write_year(row: &mut [u8], year: u64) -> Result<usize, Refusal> {
     Ok(reply.records as usize)
 }
 
-/// Returns the months of a year.
+/// Returns the months of a solstice year.
 pub fn months_of(year: u64) -> Result<Vec<Month>, Refusal> {
     let mut row = [0; YEAR_ROOM * RECORD_BYTES];
     let records = write_year(&mut row, year)?;
@@ -112,9 +111,4 @@ fn month_in(record: &[u8]) -> Month {
         number: number(8),
         leap: number(12) == 1,
     }
-}
-
-/// Returns the Western year in which most of a calendar year lies.
-pub fn western_year(year: u64) -> u64 {
-    year + FIRST_WESTERN_YEAR
 }

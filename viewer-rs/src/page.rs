@@ -1,43 +1,96 @@
-//! A year as a page of HTML that needs nothing besides itself.
+//! A solstice year as a page of HTML that needs nothing besides itself.
 
-use crate::civil::CivilYear;
+use crate::civil::{self, CivilYear, Part};
 use crate::names::{self, Name, TERMS};
-use crate::text::western_note;
-use crate::{month_of, terms, western, western_year, Month, MonthOfDay};
+use crate::text::{courtesy_note, number};
+use crate::{month_of, terms, western, Month, MonthOfDay};
 
 const STYLE: &str = include_str!("page.css");
 
-/// Returns the page of a year.
+/// Returns the page of a solstice year.
 pub fn year(year: u64, months: &[Month]) -> String {
-    let western = western_year(year);
-    let name = CivilYear(western_year(year)).name();
+    let span = civil::span(year);
+    let parts = civil::parts(year, months);
     let falling = falling(year);
-    let rows: String = months.iter().map(|month| row(month, &falling)).collect();
     let listed: String = (0..=terms::LAST).map(|term| listed(year, term)).collect();
     format!(
         "<!DOCTYPE html>\n<html lang=\"en\">\n<head>\n<meta charset=\"utf-8\">\n\
          <meta name=\"viewport\" content=\"width=device-width, initial-scale=1\">\n\
-         <title>Shoushi year {year} ({western})</title>\n<style>\n{STYLE}</style>\n</head>\n<body>\n\
-         <header>\n<h1>{} <span>Shoushi year {year}</span></h1>\n\
-         <p class=\"year\">{} {}, {western}</p>\n<p>{}</p>\n</header>\n<main>\n\
+         <title>Shoushi solstice year {year} ({span})</title>\n<style>\n{STYLE}</style>\n</head>\n<body>\n\
+         <header>\n<h1>{} <span>Shoushi solstice year {year} ({span})</span></h1>\n\
+         {}{}<p>{}</p>\n</header>\n<main>\n\
          <table class=\"months\">\n\
          <thead><tr><th scope=\"col\">Month</th><th scope=\"col\">First day · Western date*</th>\
          <th scope=\"col\">Days and terms</th></tr></thead>\n\
-         <tbody>\n{rows}</tbody>\n</table>\n\
+         {}{}</table>\n\
          <h2>{} <span>The 24 terms</span></h2>\n<ol class=\"terms\">\n{listed}</ol>\n</main>\n\
          <footer>\n{}<p>{}</p>\n</footer>\n</body>\n</html>\n",
         chinese("授時曆"),
-        chinese(&format!("歲次{}", name.chinese)),
-        romanised(&name.romanised),
+        spanned(&parts[0]),
+        spanned(&parts[1]),
         summary(year, months),
+        body("civil", ", its last months", &parts[0], &falling),
+        body("civil new-year", " begins", &parts[1], &falling),
         chinese("二十四氣"),
         legend(),
-        western_note(months),
+        courtesy_note(&parts),
     )
 }
 
-/// Returns the terms with their days that a year's months may hold: its own, and the last of the year
-/// before.
+/// Returns the line of the header about a civil year of which the solstice year has months.
+fn spanned(part: &Part) -> String {
+    let months = match part.months {
+        [first, .., last] => format!(
+            ", <span class=\"whole\">months {} to {}</span>",
+            number(first),
+            number(last)
+        ),
+        _ => String::new(),
+    };
+    format!(
+        "<p class=\"year\">{} · civil year {}{months}{}</p>\n",
+        named(part.year),
+        part.year.0,
+        eras(part),
+    )
+}
+
+/// Returns the table's body of a civil year's months, under a row that names it and says which months these are.
+fn body(class: &str, which: &str, part: &Part, falling: &[(u64, u64)]) -> String {
+    let rows: String = part
+        .months
+        .iter()
+        .map(|month| row(month, falling))
+        .collect();
+    format!(
+        "<tbody>\n<tr class=\"{class}\"><th scope=\"rowgroup\" colspan=\"3\">{} · civil year {}{which}{}</th></tr>\n\
+         {rows}</tbody>\n",
+        named(part.year),
+        part.year.0,
+        eras(part),
+    )
+}
+
+/// Returns the sixty-name of a civil year.
+fn named(year: CivilYear) -> String {
+    let name = year.name();
+    format!(
+        "{} {}",
+        chinese(&format!("{}年", name.chinese)),
+        romanised(&name.romanised)
+    )
+}
+
+/// Returns a civil year's eras as they follow its name, where they are known.
+fn eras(part: &Part) -> String {
+    match part.eras_told(both) {
+        Some(eras) => format!(" <span class=\"era\">{eras}*</span>"),
+        None => String::new(),
+    }
+}
+
+/// Returns the terms with their days that a solstice year's months may hold: its own, and the last of the
+/// one before.
 fn falling(year: u64) -> Vec<(u64, u64)> {
     let before = year.checked_sub(1).map(|before| (before, terms::LAST));
     let own = (0..=terms::LAST).map(|term| (year, term));
@@ -48,7 +101,7 @@ fn falling(year: u64) -> Vec<(u64, u64)> {
         .collect()
 }
 
-/// Returns a sentence that sums the year up.
+/// Returns a sentence that sums the solstice year up.
 fn summary(year: u64, months: &[Month]) -> String {
     let days: u32 = months.iter().map(|month| month.length).sum();
     let leap = match months.iter().find(|month| month.leap) {
@@ -120,7 +173,7 @@ fn listed(year: u64, term: u64) -> String {
     let day = terms::day_of(year, term);
     format!(
         "<li class=\"{}\"><span class=\"name\">{} {}</span> <span class=\"small\">{}</span>\n\
-         <span class=\"where\">{}, {}</span> <span class=\"small\">day {day} · {}</span></li>\n",
+         <span class=\"where\">{}</span> <span class=\"small\">{} · day {day} · {}</span></li>\n",
         class(term),
         chinese(name.chinese),
         romanised(name.romanised),
@@ -131,25 +184,31 @@ fn listed(year: u64, term: u64) -> String {
     )
 }
 
-/// Returns where a term of a year falls.
+/// Returns where a term of a solstice year falls.
 fn place(year: u64, month: Option<MonthOfDay>) -> String {
     match month {
-        // the last terms of the last year
+        // the last terms of the last solstice year
         None => "after the last month".to_string(),
-        Some(of) if u64::from(of.year) == year => {
-            format!("{}, day {}", numbered(&of.month), of.day)
-        }
-        // the last term may fall in the first month of the next year
-        Some(of) => format!("year {}, {}, day {}", of.year, numbered(&of.month), of.day),
+        Some(of) if u64::from(of.year) == year => within(&of),
+        // the last term may fall in the first month of the next list
+        Some(of) => format!("solstice year {}, {}", of.year, within(&of)),
     }
 }
 
-/// Returns what the marks mean.
+/// Returns a day's month, with the civil year, and the day of the month.
+fn within(of: &MonthOfDay) -> String {
+    let civil = CivilYear::of_day(of).0;
+    format!("{} of {civil}, day {}", numbered(&of.month), of.day)
+}
+
+/// Returns what the marks and the two years mean.
 fn legend() -> String {
     format!(
         "<p><i class=\"middle\"></i> middle term ({}) <i class=\"node\"></i> node term ({}). {} {} 30 days, {} {} \
          29 days, {} {} leap: a leap month holds no middle term. Months, lengths and leap marks are \
-         replies of the proved calendar; the terms’ days are sums made for this page.</p>\n",
+         replies of the proved calendar; the terms’ days are sums made for this page.</p>\n\
+         <p>A solstice year ({} {}) lies between winter solstices; a civil year ({} {}) begins with month 1, in the \
+         Western year that names it.</p>\n",
         chinese("中氣"),
         chinese("節"),
         chinese("大"),
@@ -158,6 +217,10 @@ fn legend() -> String {
         romanised("xiao"),
         chinese("閏"),
         romanised("run"),
+        chinese("歲"),
+        romanised("sui"),
+        chinese("年"),
+        romanised("nian"),
     )
 }
 

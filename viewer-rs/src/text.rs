@@ -1,38 +1,85 @@
 //! Replies as text for a terminal.
 
-use crate::civil::CivilYear;
+use crate::civil::{self, CivilYear, Part, LAST_TOLD};
 use crate::names::{self, Name};
-use crate::{western, western_year, Month, MonthOfDay};
+use crate::{western, Month, MonthOfDay};
 
-/// Returns the reply about a day as a small block.
+/// Returns the reply about a day as a small block, the civil year first.
 pub fn day(day: u64, reply: &MonthOfDay) -> String {
-    let year = u64::from(reply.year);
+    let civil = CivilYear::of_day(reply);
     let month = &reply.month;
     let (length, length_romanised) = names::of_length(month);
     let first = u64::from(month.first);
     let date = western::date_of(day);
     format!(
         "Day {day}, {}\n\
-         \x20 year       {year} ({}), {}\n\
-         \x20 month      {}, {}\n\
-         \x20 day        {} of {} ({length} {length_romanised})\n\
-         \x20 first day  {first}, {}\n\
-         \x20 courtesy   {date}, {} calendar\n",
+         \x20 civil year     {}\n\
+         \x20 era            {} (courtesy)\n\
+         \x20 month          {}, {}\n\
+         \x20 day            {} of {} ({length} {length_romanised})\n\
+         \x20 first day      {first}, {}\n\
+         \x20 solstice year  {} (歲, {}), place {} in its list, counted from 0\n\
+         \x20 Western date   {date}, {} calendar (courtesy)\n",
         both(&names::of_day(day)),
-        western_year(year),
-        both(&CivilYear(western_year(year)).name()),
+        civil_year(civil),
+        era(civil, month),
         number(month),
         both(&names::of_month(month)),
         reply.day,
         month.length,
         both(&names::of_day(first)),
+        reply.year,
+        civil::span(reply.year.into()),
+        reply.place,
         date.calendar(),
     )
 }
 
-/// Returns the months of a year as a table.
+/// Returns a civil year by the Western year in which it began, with its sixty-name.
+fn civil_year(year: CivilYear) -> String {
+    format!("{}, {}", year.0, both(&year.name()))
+}
+
+/// Returns the era of a month of a civil year, or says that none is told.
+fn era(year: CivilYear, month: &Month) -> String {
+    match year.era(month.number) {
+        Some(era) => both(&era.name()),
+        None => format!("none is told after {LAST_TOLD}"),
+    }
+}
+
+/// Returns the months of a solstice year as a table, parted where the civil year begins.
 pub fn year(year: u64, months: &[Month]) -> String {
     let days: u32 = months.iter().map(|month| month.length).sum();
+    let parts = civil::parts(year, months);
+    let lines = aligned(&rows(months));
+    let (head, listed) = lines.split_at(1);
+    let (before, after) = listed.split_at(parts[0].months.len());
+    format!(
+        "Solstice year {year} ({}), {} and {}: {} months, {days} days\n\n{}\n{}{}\n{}{}\n{}\n",
+        civil::span(year),
+        both(&parts[0].year.name()),
+        both(&parts[1].year.name()),
+        months.len(),
+        head.concat(),
+        heading(&parts[0]),
+        before.concat(),
+        heading(&parts[1]),
+        after.concat(),
+        courtesy_note(&parts),
+    )
+}
+
+/// Returns the line above the months of a civil year.
+fn heading(part: &Part) -> String {
+    match part.eras_told(both) {
+        Some(eras) => format!("Civil year {}, {eras}*\n", civil_year(part.year)),
+        None => format!("Civil year {}\n", civil_year(part.year)),
+    }
+}
+
+/// Returns the cells of the table of months, its head first.
+fn rows(months: &[Month]) -> Vec<[String; 8]> {
     let head = [
         "Place",
         "Month",
@@ -56,14 +103,7 @@ pub fn year(year: u64, months: &[Month]) -> String {
             format!("{:>11}", western::date_of(month.first.into()).short()),
         ]
     }));
-    format!(
-        "Year {year} ({}), {}: {} months, {days} days\n\n{}\n{}\n",
-        western_year(year),
-        both(&CivilYear(western_year(year)).name()),
-        months.len(),
-        aligned(&rows),
-        western_note(months),
-    )
+    rows
 }
 
 /// Returns a month's number, with leap marked.
@@ -75,15 +115,29 @@ pub fn number(month: &Month) -> String {
     }
 }
 
-/// Returns a sentence that says which calendar the Western dates of months are in.
-pub fn western_note(months: &[Month]) -> String {
+/// Returns a sentence about the courtesies: which calendar the Western dates are in, and where no era is told.
+pub fn courtesy_note(parts: &[Part; 2]) -> String {
+    let calendar = calendar_of(parts);
+    let untold = format!("; no era is told after {LAST_TOLD}");
+    let (eras, untold) = match parts {
+        [_, last] if last.year.0 <= LAST_TOLD => (" and eras", ""),
+        [first, _] if first.year.0 <= LAST_TOLD => (" and eras", untold.as_str()),
+        _ => ("", untold.as_str()),
+    };
+    format!(
+        "* Western dates ({calendar}){eras} are a courtesy and no part of the calendar's reply{untold}."
+    )
+}
+
+/// Returns the name of the calendar that the Western dates of months are in.
+fn calendar_of(parts: &[Part; 2]) -> &'static str {
+    let mut months = parts.iter().flat_map(|part| part.months);
     let gregorian = |month: &Month| western::date_of(month.first.into()).gregorian;
-    let calendar = match (months.iter().all(gregorian), months.iter().any(gregorian)) {
+    match (months.clone().all(gregorian), months.any(gregorian)) {
         (true, _) => "Gregorian",
         (_, true) => "Julian up to 4 October 1582 and then Gregorian",
         _ => "Julian",
-    };
-    format!("* Western dates ({calendar}) are a courtesy and no part of the calendar's reply.")
+    }
 }
 
 /// Returns a name in Chinese and romanised.
@@ -91,9 +145,9 @@ fn both(name: &Name) -> String {
     format!("{} {}", name.chinese, name.romanised)
 }
 
-/// Returns rows of cells in columns, numbers to the right and words to the left.
-fn aligned<const COLUMNS: usize>(rows: &[[String; COLUMNS]]) -> String {
-    let mut text = String::new();
+/// Returns rows of cells as lines in columns, numbers to the right and words to the left.
+fn aligned<const COLUMNS: usize>(rows: &[[String; COLUMNS]]) -> Vec<String> {
+    let mut lines = Vec::new();
     for row in rows {
         let mut line = String::new();
         for (column, cell) in row.iter().enumerate() {
@@ -108,10 +162,9 @@ fn aligned<const COLUMNS: usize>(rows: &[[String; COLUMNS]]) -> String {
                 cell.clone() + &blanks
             };
         }
-        text += line.trim_end();
-        text += "\n";
+        lines.push(format!("{}\n", line.trim_end()));
     }
-    text
+    lines
 }
 
 /// Returns how many columns of a terminal a text takes: a Chinese character takes two.

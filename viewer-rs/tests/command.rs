@@ -32,35 +32,56 @@ fn a_day() {
     assert_eq!(
         answered(&["day", "340"]),
         "Day 340, 甲辰 jiachen\n\
-         \x20 year       0 (1281), 辛巳 xinsi\n\
-         \x20 month      leap 8, 閏八月 run-bayue\n\
-         \x20 day        12 of 30 (大 da)\n\
-         \x20 first day  329, 癸巳 guisi\n\
-         \x20 courtesy   25 September 1281, Julian calendar\n"
+         \x20 civil year     1281, 辛巳 xinsi\n\
+         \x20 era            至元十八年 Zhiyuan 18 (courtesy)\n\
+         \x20 month          leap 8, 閏八月 run-bayue\n\
+         \x20 day            12 of 30 (大 da)\n\
+         \x20 first day      329, 癸巳 guisi\n\
+         \x20 solstice year  0 (歲, 1280/81), place 10 in its list, counted from 0\n\
+         \x20 Western date   25 September 1281, Julian calendar (courtesy)\n"
     );
-    assert!(answered(&["day", "35"]).contains("month      11, 十一月 shiyiyue"));
-    assert!(answered(&["day", "000365268"]).contains("Gregorian"));
+    let first = answered(&["day", "35"]);
+    assert!(first.contains("civil year     1280, 庚辰 gengchen"));
+    assert!(first.contains("month          11, 十一月 shiyiyue"));
+    let last = answered(&["day", "000365268"]);
+    assert!(last.contains("era            none is told after 1644 (courtesy)"));
+    assert!(last.contains("Gregorian"));
 }
 
 #[test]
 fn a_year() {
     let table = answered(&["year", "0"]);
     let lines: Vec<&str> = table.lines().collect();
-    assert_eq!(lines[0], "Year 0 (1281), 辛巳 xinsi: 13 months, 384 days");
     assert_eq!(
-        lines[3],
+        lines[0],
+        "Solstice year 0 (1280/81), 庚辰 gengchen and 辛巳 xinsi: 13 months, 384 days"
+    );
+    assert_eq!(
+        lines[4],
+        "Civil year 1280, 庚辰 gengchen, 至元十七年 Zhiyuan 17*"
+    );
+    assert_eq!(
+        lines[5],
         "    0      11  十一月 shiyiyue     29  小         35  己亥 jihai    24 Nov 1280"
     );
     assert_eq!(
-        lines[13],
+        lines[8],
+        "Civil year 1281, 辛巳 xinsi, 至元十八年 Zhiyuan 18*"
+    );
+    assert_eq!(
+        lines[17],
         "   10  leap 8  閏八月 run-bayue    30  大        329  癸巳 guisi    14 Sep 1281"
     );
-    assert_eq!(lines.len(), 3 + 13 + 2);
-    assert!(lines[17].starts_with("* Western dates (Julian) are a courtesy"));
+    assert_eq!(lines.len(), 3 + 4 + 13 + 2);
+    assert!(lines[21].starts_with("* Western dates (Julian) and eras are a courtesy"));
     assert!(answered(&["year", "301"]).contains("(Julian up to 4 October 1582 and then Gregorian)"));
-    assert!(
-        answered(&["year", "999"]).contains("Year 999 (2280), 庚申 gengshen: 12 months, 354 days")
-    );
+    let last = answered(&["year", "999"]);
+    assert!(last.starts_with(
+        "Solstice year 999 (2279/80), 己未 jiwei and 庚申 gengshen: 12 months, 354 days\n"
+    ));
+    assert!(last.ends_with(
+        "* Western dates (Gregorian) are a courtesy and no part of the calendar's reply; no era is told after 1644.\n"
+    ));
 }
 
 #[test]
@@ -69,7 +90,8 @@ fn refusals_are_sentences() {
     for day in ["34", "365269", "0", "18446744073709551616"] {
         assert_eq!(refused(&["day", day]), format!("viewer: Day {day} {days}"));
     }
-    let years = "is refused: it lies outside the calendar's years, 0 to 999 (refusal 1).\n";
+    let years =
+        "is refused: it lies outside the calendar's solstice years, 0 to 999 (refusal 1).\n";
     for words in [
         ["year", "1000"],
         ["page", "1000"],
@@ -77,7 +99,7 @@ fn refusals_are_sentences() {
     ] {
         assert_eq!(
             refused(&words),
-            format!("viewer: Year {} {years}", words[1])
+            format!("viewer: Solstice year {} {years}", words[1])
         );
     }
 }
@@ -122,7 +144,7 @@ fn a_reader_that_stops_is_no_failure() {
 fn a_page() {
     let page = answered(&["page", "0"]);
     assert!(page.starts_with("<!DOCTYPE html>\n<html lang=\"en\">"));
-    assert!(page.contains("<title>Shoushi year 0 (1281)</title>"));
+    assert!(page.contains("<title>Shoushi solstice year 0 (1280/81)</title>"));
     assert!(page.contains("<i class=\"middle\">21<b lang=\"zh-Hant\">冬至</b></i>"));
     assert!(page.contains("leap month 8 · <span class=\"zh\" lang=\"zh-Hant\">大</span> 30 days"));
 }
