@@ -6,7 +6,7 @@
  * return; they keep nothing between calls and may be called from several threads at once. specs/ has what they answer.
  *
  * A question that is not answered is refused by a number:
- *   1  the year is over 999
+ *   1  the solstice year is over 999
  *   3  the day is under 35 or over 365,268
  *   4  the row has room for fewer than 13 records
  */
@@ -23,8 +23,8 @@ extern "C" {
 /* The month in which a day lies; or a refusal, with its number in `refused` and 0 in every other field. */
 struct lengadriu_month {
     uint32_t first;  /* the running day on which the month begins */
-    uint16_t year;   /* 0 to 999; year 0 is 1281 */
-    uint8_t place;   /* in the list of the year, counted from 0 */
+    uint16_t year;   /* the solstice year, 0 to 999; its months 11 and 12 are of civil year 1280 + year, the others of 1281 + year */
+    uint8_t place;   /* in its list, counted from 0 */
     uint8_t day;     /* of the month, counted from 1 */
     uint8_t length;  /* 29 or 30 */
     uint8_t number;  /* 1 to 12; a leap month has that of the month before it */
@@ -42,7 +42,7 @@ struct lengadriu_count {
 struct lengadriu_month lengadriu_day(uint64_t d);
 
 /*
- * The months of year n, from the start of `row`, which has `length` bytes. A record has 16: its first day, length, number and
+ * The months of solstice year n, from the start of `row`, which has `length` bytes. A record has 16: its first day, length, number and
  * leap mark, four numbers of 32 bits with the low byte first on every machine. The bytes after the last record written keep
  * their contents. The row may not be NULL, not even where its length is 0, and its address need not be a multiple of anything.
  */
