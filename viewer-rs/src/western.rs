@@ -43,6 +43,22 @@ impl Date {
         }
     }
 
+    /// Returns whether its calendar has it.
+    pub fn exists(&self) -> bool {
+        (1..=12).contains(&self.month) && (1..=self.month_length()).contains(&self.day)
+    }
+
+    /// Returns how many days its month has.
+    fn month_length(&self) -> u64 {
+        let left_out = self.gregorian && self.year % 100 == 0 && self.year % 400 != 0;
+        match self.month {
+            2 if self.year % 4 == 0 && !left_out => 29,
+            2 => 28,
+            4 | 6 | 9 | 11 => 30,
+            _ => 31,
+        }
+    }
+
     fn month_name(&self) -> &'static str {
         MONTHS[self.month as usize - 1]
     }
@@ -79,4 +95,40 @@ pub fn date_of(day: u64) -> Date {
         day: fifths % 153 / 5 + 1,
         gregorian,
     }
+}
+
+/// Returns whether a year, a month and a day are of the Gregorian calendar by the usual rule, Julian up to
+/// 4 October 1582 and Gregorian from 15 October 1582 on, or nothing of the days between, which never were.
+pub fn usually_gregorian(year: u64, month: u64, day: u64) -> Option<bool> {
+    match (year, month, day) {
+        date if date <= (1582, 10, 4) => Some(false),
+        date if date >= (1582, 10, 15) => Some(true),
+        _ => None,
+    }
+}
+
+/// Returns the running day of a date that its calendar has, where it is not before day 0.
+pub fn day_of(date: &Date) -> Option<u64> {
+    // years counted from 1 March, so that the leap day is the last
+    let before_march = i128::from(date.month < 3);
+    let year = i128::from(date.year) + 4_800 - before_march;
+    let month = i128::from(date.month) + 12 * before_march - 3;
+    let left_out = if date.gregorian {
+        year / 100 - year / 400 - 38
+    } else {
+        0
+    };
+    let number =
+        i128::from(date.day) + (153 * month + 2) / 5 + 365 * year + year / 4 - 32_083 - left_out;
+    u64::try_from(number - i128::from(DAY_ZERO)).ok()
+}
+
+/// Returns the month, 1 to 12, that a word gives: its English name, or at least the first three letters of it.
+pub fn month_named(word: &str) -> Option<u64> {
+    let word = word.to_lowercase();
+    let begins = |month: &&str| word.len() >= 3 && month.to_lowercase().starts_with(&word);
+    (1..)
+        .zip(&MONTHS)
+        .find(|(_, month)| begins(month))
+        .map(|(number, _)| number)
 }
