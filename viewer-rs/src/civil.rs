@@ -167,6 +167,32 @@ impl Part<'_> {
     }
 }
 
+impl Era {
+    /// Returns whether a word in small letters is its name. The later of two eras has the name of the earlier.
+    pub fn is_romanised(&self, word: &str) -> bool {
+        let name = self.romanised.split(' ').next();
+        name.map(str::to_lowercase).as_deref() == Some(word)
+    }
+
+    /// Returns the last civil year in which it was the era of a month.
+    pub fn last_year(&self) -> u64 {
+        match self.next() {
+            Some(next) if next.month == 1 => next.year - 1,
+            _ => self.year_of_change(),
+        }
+    }
+
+    /// Returns the civil year in which the next era began, or the last that is told.
+    pub fn year_of_change(&self) -> u64 {
+        self.next().map_or(LAST_TOLD, |next| next.year)
+    }
+
+    fn next(&self) -> Option<&'static Era> {
+        let began = (self.year, self.month);
+        ERAS.iter().find(|era| (era.year, era.month) > began)
+    }
+}
+
 impl EraYear {
     /// Returns it as a sheet prints it, 至元十八年 with 元年 for the first, and romanised.
     pub fn name(&self) -> Name {

@@ -121,6 +121,25 @@ pub fn numeral(number: u64) -> String {
     }
 }
 
+/// Returns the count from a jiazi, 0 to 59, of the name among the sixty that a text gives, in Chinese or
+/// romanised.
+pub fn count_of(text: &str) -> Option<u64> {
+    let romanised = text.to_lowercase();
+    (0..60).find(|count| {
+        let name = sixty(*count);
+        name.chinese == text || name.romanised == romanised
+    })
+}
+
+/// Returns the number from 1 to 99 that a text gives in Chinese. 廿, 卅 and 卌 are 二十, 三十 and 四十.
+pub fn number_of(text: &str) -> Option<u64> {
+    let text = text
+        .replace('廿', "二十")
+        .replace('卅', "三十")
+        .replace('卌', "四十");
+    (1..100).find(|number| numeral(*number) == text)
+}
+
 /// Returns the name of a month.
 pub fn of_month(month: &Month) -> Name {
     let (chinese, romanised) = MONTHS[month.number as usize - 1];
