@@ -1,6 +1,6 @@
 //! The questions of the command line.
 
-use crate::{month_of, months_of, page, text, Refusal};
+use crate::{find, month_of, months_of, page, text, Refusal};
 
 pub const HELP: &str = "\
 The Shoushi calendar of 1281, asked through its proved functions.
@@ -9,14 +9,22 @@ The Shoushi calendar of 1281, asked through its proved functions.
   viewer year N    the months of solstice year N as a table; N is 0 (1280/81) to 999 (2279/80)
   viewer page N    the same solstice year as a page of HTML, to print or for a phone:
                    viewer page 0 > year.html
+  viewer find …    the running day of a Western date or of a civil one, or the days of a sixty-name:
+                   viewer find 9 January 1283   (9 Jan 1283, 1283-01-09, 16 January 1283 gregorian)
+                   viewer find 1281 leap 8 12   (Zhiyuan 18 leap 8 12, 至元十八年閏八月十二日)
+                   viewer find 1281 jiachen     (1281 leap 8 jiachen, 至元十八年甲辰)
   viewer help      this text
 
 The solstice year (歲) runs from winter solstice to winter solstice and its list begins with months 11 and 12
 of the civil year before, while the civil year (年), by which a sheet is dated, begins with month 1 and is
-named by the Western year in which it began. Running day 0 is a jiazi day, and day 35 begins month 11 of
-civil year 1280, the first month of solstice year 0. Eras are a courtesy, told up to 1644. Western dates are a
-courtesy, Julian up to 4 October 1582 and Gregorian from 15 October 1582 on. What is refused is told in one
-sentence with the refusal's number, and the exit status is then 2.
+named by the Western year in which it began, or by an era, from Zhiyuan to Chongzhen. The sixty-names of the
+year and of the day may be given to find too, and must then agree. All days found are the Shoushi calendar's:
+on a sheet reckoned otherwise a month may begin a day sooner or later.
+
+Running day 0 is a jiazi day, and day 35 begins month 11 of civil year 1280, the first month of solstice year
+0. Eras are a courtesy, told up to 1644. Western dates are a courtesy, Julian up to 4 October 1582 and
+Gregorian from 15 October 1582 on. What is refused is told in one sentence with the refusal's number, and the
+exit status is then 2.
 ";
 
 const MALFORMED: u32 = 5;
@@ -27,6 +35,10 @@ pub fn reply(words: &[&str]) -> Result<String, String> {
         ["day", day] => about("Day", day, |d| Ok(text::day(d, &month_of(d)?))),
         ["year", year] => about("Solstice year", year, |n| Ok(text::year(n, &months_of(n)?))),
         ["page", year] => about("Solstice year", year, |n| Ok(page::year(n, &months_of(n)?))),
+        ["find"] => Err(malformed("Nothing was given to find")),
+        ["find", given @ ..] => {
+            find::reply(&given.join(" ")).map_err(|refused| refused.to_string())
+        }
         ["help" | "--help" | "-h"] => Ok(HELP.to_string()),
         [] => Err(malformed("No question was asked")),
         _ => Err(malformed(&format!("‘{}’ is no question", words.join(" ")))),
@@ -51,7 +63,7 @@ fn about(
 
 /// Returns the number that a word of digits gives. One of more than 64 bits lies outside every list as
 /// the greatest of 64 bits does, and stands for it.
-fn number_in(word: &str) -> Option<u64> {
+pub fn number_in(word: &str) -> Option<u64> {
     if word.is_empty() || !word.bytes().all(|byte| byte.is_ascii_digit()) {
         return None;
     }

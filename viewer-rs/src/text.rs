@@ -141,12 +141,12 @@ fn calendar_of(parts: &[Part; 2]) -> &'static str {
 }
 
 /// Returns a name in Chinese and romanised.
-fn both(name: &Name) -> String {
+pub fn both(name: &Name) -> String {
     format!("{} {}", name.chinese, name.romanised)
 }
 
 /// Returns rows of cells as lines in columns, numbers to the right and words to the left.
-fn aligned<const COLUMNS: usize>(rows: &[[String; COLUMNS]]) -> Vec<String> {
+pub fn aligned<const COLUMNS: usize>(rows: &[[String; COLUMNS]]) -> Vec<String> {
     let mut lines = Vec::new();
     for row in rows {
         let mut line = String::new();
