@@ -18,8 +18,8 @@ The Shoushi calendar of 1281, asked through its proved functions.
 The solstice year (歲) runs from winter solstice to winter solstice and its list begins with months 11 and 12
 of the civil year before, while the civil year (年), by which a sheet is dated, begins with month 1 and is
 named by the Western year in which it began, or by an era, from Zhiyuan to Chongzhen. The sixty-names of the
-year and of the day may be given to find too, and must then agree. All days found are the Shoushi calendar's:
-on a sheet reckoned otherwise a month may begin a day sooner or later.
+civil year and of the day may be given to find too, and must then agree. All days found are the Shoushi
+calendar's: on a sheet reckoned otherwise a month may begin a day sooner or later.
 
 Running day 0 is a jiazi day, and day 35 begins month 11 of civil year 1280, the first month of solstice year
 0. Eras are a courtesy, told up to 1644. Western dates are a courtesy, Julian up to 4 October 1582 and
