@@ -1,6 +1,6 @@
 //! The questions of the command line.
 
-use crate::{find, month_of, months_of, page, text, Refusal};
+use crate::{file, find, month_of, months_of, page, text, Refusal};
 
 pub const HELP: &str = "\
 The Shoushi calendar of 1281, asked through its proved functions.
@@ -13,6 +13,9 @@ The Shoushi calendar of 1281, asked through its proved functions.
                    viewer find 9 January 1283   (9 Jan 1283, 1283-01-09, 16 January 1283 gregorian)
                    viewer find 1281 leap 8 12   (Zhiyuan 18 leap 8 12, 至元十八年閏八月十二日)
                    viewer find 1281 jiachen     (1281 leap 8 jiachen, 至元十八年甲辰)
+  viewer file --decimal [FILE]
+                   the days of a file or of the standard input, one a line or in a column of CSV, filed
+                   by civil year and month as CSV; ‘viewer help file’ says more
   viewer help      this text
 
 The solstice year (歲) runs from winter solstice to winter solstice and its list begins with months 11 and 12
@@ -27,7 +30,8 @@ Gregorian from 15 October 1582 on. What is refused is told in one sentence with 
 exit status is then 2.
 ";
 
-const MALFORMED: u32 = 5;
+/// Refusal of what is no question.
+pub(crate) const MALFORMED: u32 = 5;
 
 /// Returns what a question's words are answered with, or a sentence that says why they are not.
 pub fn reply(words: &[&str]) -> Result<String, String> {
@@ -40,6 +44,7 @@ pub fn reply(words: &[&str]) -> Result<String, String> {
             find::reply(&given.join(" ")).map_err(|refused| refused.to_string())
         }
         ["help" | "--help" | "-h"] => Ok(HELP.to_string()),
+        ["help", "file"] | ["file", "--help" | "-h"] => Ok(file::HELP.to_string()),
         [] => Err(malformed("No question was asked")),
         _ => Err(malformed(&format!("‘{}’ is no question", words.join(" ")))),
     }

@@ -4,6 +4,7 @@
 
 pub mod civil;
 pub mod command;
+pub mod file;
 pub mod find;
 pub mod names;
 pub mod page;

@@ -1,5 +1,6 @@
 //! The two functions of the proved archive, and all of the viewer's unsafe code. Nothing but the tests
 //! holds these declarations to `crates/viewer/src/lib.rt`; `crates/viewer/viewer.h` says the same in C.
+//! Beside them stands one function of the system's C library, which asks about a terminal.
 
 /// A reply about a day. In a month `refused` is 0; a refusal has its number there and 0 elsewhere.
 #[repr(C)]
@@ -28,6 +29,8 @@ extern "C" {
 
     // a lent row goes over as its address and its length
     fn lengadriu_year(row: *mut u8, length: usize, n: u64) -> Count;
+
+    fn isatty(descriptor: i32) -> i32;
 }
 
 /// Returns the reply about a day.
@@ -41,4 +44,11 @@ pub fn year(row: &mut [u8], n: u64) -> Count {
     // SAFETY: address and length are those of one slice, which no one else holds during the call, and
     // the function is proved to stay inside it and to return.
     unsafe { lengadriu_year(row.as_mut_ptr(), row.len(), n) }
+}
+
+/// Returns whether the standard error is a terminal.
+pub fn told_to_a_terminal() -> bool {
+    const STANDARD_ERROR: i32 = 2;
+    // SAFETY: the function takes a number and touches no memory of ours.
+    unsafe { isatty(STANDARD_ERROR) == 1 }
 }
