@@ -13,9 +13,9 @@ The Shoushi calendar of 1281, asked through its proved functions.
                    viewer find 9 January 1283   (9 Jan 1283, 1283-01-09, 16 January 1283 gregorian)
                    viewer find 1281 leap 8 12   (Zhiyuan 18 leap 8 12, 至元十八年閏八月十二日)
                    viewer find 1281 jiachen     (1281 leap 8 jiachen, 至元十八年甲辰)
-  viewer file --decimal [FILE]
+  viewer file FLAGS [FILE]
                    the days of a file or of the standard input, one a line or in a column of CSV, filed
-                   by civil year and month as CSV; ‘viewer help file’ says more
+                   by civil year and month as CSV; ‘viewer help file’ says how
   viewer help      this text
 
 The solstice year (歲) runs from winter solstice to winter solstice and its list begins with months 11 and 12
