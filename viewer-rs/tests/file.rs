@@ -203,6 +203,9 @@ fn what_is_taken_as_meant() {
     let small = hexadecimal("592d4\n");
     assert!(small.starts_with("1,592d4,365268,2280,庚申,10,30,"));
     assert_eq!(hexadecimal("592D4\n"), small.replace("592d4", "592D4"));
+    // a byte order mark begins an input and no other line, and a line has one end
+    assert!(decimal("340\n\u{FEFF}340\n").ends_with("\n2,\u{FEFF}340,,,,,,,,5\n"));
+    assert_eq!(decimal("340\r\r\n"), "1,\"340\r\",,,,,,,,5\n");
     assert!(hexadecimal("0014a\n0014A\n0014a")
         .lines()
         .all(|row| row.contains(",330,1281,")));
