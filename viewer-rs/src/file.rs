@@ -1,5 +1,5 @@
 //! The bench's front end: the days of a file, one to a row, filed by civil year and month. It takes what the line program
-//! refuses on purpose (line ends of other systems, blanks, small letters, columns) and never guesses: a row is answered
+//! refuses on purpose (carriage returns, blanks, small letters, columns) and never guesses: a row is answered
 //! or refused by itself, and every row that is read has its row in the output, in order.
 //!
 //! [`input`] reads lines and takes them apart, [`decide`] says which day a row asks for or why it is refused, and

@@ -16,8 +16,8 @@ One of the two flags must be given: 00340 is running day 340 in decimal and runn
   --progress     tells on the way how many rows are done, as it does at a terminal
 
 The input has one day a line, or is CSV with commas. A row is one line, and all rows have as many columns as the
-first. Blanks around a day, leading zeros, a byte order mark and the line ends of other systems are taken as meant; a
-sign, a point, 0x or a thousands mark is refused. A line without a word asks nothing and is passed over, but counted.
+first. Blanks around a day, leading zeros, a byte order mark and a carriage return before a line's end are taken as
+meant; a sign, a point, 0x or a thousands mark is refused. An empty line is passed over, but counted as a line.
 
 The output is CSV with one row for each row of the input, in order:
   line           line of the input, counted from 1
