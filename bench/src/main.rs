@@ -20,15 +20,15 @@ struct Day {
 
 /// An answer's number, or a refusal's in `refused`.
 #[repr(C)]
-struct Told {
+struct Timed {
     refused: u64,
     number: u64,
 }
 
 extern "C" {
     fn lengadriu_day(d: u64) -> Day;
-    fn timing_true_moon(l: u64, q: u64) -> Told;
-    fn timing_run(row: *mut u64, length: usize, n: u64, count: u64) -> Told;
+    fn timing_true_moon(l: u64, q: u64) -> Timed;
+    fn timing_run(row: *mut u64, length: usize, n: u64, count: u64) -> Timed;
 }
 
 /// The least nanoseconds that one of `of` items took, over several rounds of both sides in turn.

@@ -10,6 +10,7 @@ mod years;
 pub use months::months_of_civil;
 
 use crate::civil::{CivilYear, Era};
+use crate::command::MALFORMED;
 use crate::western::{self, Date};
 use crate::{month_of, Refusal};
 use question::{Asked, Civil, Question};
@@ -19,7 +20,6 @@ use std::fmt;
 const OUTSIDE_YEARS: u32 = 1;
 const OUTSIDE_LIST: u32 = 2;
 const OUTSIDE_DAYS: u32 = 3;
-const MALFORMED: u32 = 5;
 
 /// First and last running day and civil year. Of the first civil year the calendar has months 11 and 12 only, of the
 /// last months 1 to 10.

@@ -2,7 +2,7 @@
 
 use crate::civil::{self, CivilYear, Part};
 use crate::names::{self, Name, TERMS};
-use crate::text::{courtesy_note, number};
+use crate::text::{courtesy_note, number, numbered};
 use crate::{month_of, terms, western, Month, MonthOfDay};
 
 const STYLE: &str = include_str!("page.css");
@@ -230,15 +230,6 @@ fn class(term: u64) -> &'static str {
         "middle"
     } else {
         "node"
-    }
-}
-
-/// Returns a month by its number.
-fn numbered(month: &Month) -> String {
-    if month.leap {
-        format!("leap month {}", month.number)
-    } else {
-        format!("month {}", month.number)
     }
 }
 

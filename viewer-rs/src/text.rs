@@ -115,6 +115,15 @@ pub fn number(month: &Month) -> String {
     }
 }
 
+/// Returns a month by its number, in words.
+pub fn numbered(month: &Month) -> String {
+    if month.leap {
+        format!("leap month {}", month.number)
+    } else {
+        format!("month {}", month.number)
+    }
+}
+
 /// Returns a sentence about the courtesies: which calendar the Western dates are in, and where no era is told.
 pub fn courtesy_note(parts: &[Part; 2]) -> String {
     let calendar = calendar_of(parts);

@@ -16,35 +16,24 @@ use Rattle.lines.specs.Line.{output}
 use Rattle.blocks.specs.Block.{Unfinished, enough, keptOf, written, blockOf}
 use Rattle.blocks.proofs.Kept.{kept-most, kept-unfinished}
 use Rattle.blocks.specs.declared.Block.{Block}
-use Rattle.month_lines.specs.Input.{readOf, writtenFor, keptFor, LeftOf}
+use Rattle.month_lines.specs.Input.{readOf, writtenFor, keptFor, repliesIn, turnAfter, LeftOf, Left}
+use Rattle.month_lines.specs.declared.Turn.{Turn}
 use Rattle.month_lines.specs.declared.Read.{Read}
 use Rattle.month_lines.specs.declared.Read.the-variants.{Last, Part}
 
-module _ (kept : ℕ) (input row out : List ℕ) (e : out ≡ over (writtenFor kept input) row) where
-  pub last-within : (n : ℕ) → Last n ≡ readOf kept input → n ≤ length out
-  unfolding readOf writtenFor
-  last-within n h = by (length input =? kept) h e
-    where
-      by : (t : Bool) → Last n ≡ (if t then Last (length (output shoushi input)) else Part (blockOf input))
-          → out ≡ over (if t then output shoushi input else written input) row
-          → n ≤ length out
-      by true g f = let same : n ≡ length (output shoushi input) = cc in omega (arith, over-least (output shoushi input) row, ap length f)
-      by false g f = let never : _≡_ {A = ℕ} 0 1 = cc in omega arith
-
-  pub part-within : (b : Block) → Part b ≡ readOf kept input → b .written ≤ length out
-  unfolding readOf writtenFor
-  part-within b h = by (length input =? kept) h e
-    where
-      by : (t : Bool) → Part b ≡ (if t then Last (length (output shoushi input)) else Part (blockOf input))
-          → out ≡ over (if t then output shoushi input else written input) row
-          → b .written ≤ length out
-      by true g f = let never : _≡_ {A = ℕ} 0 1 = cc in omega arith
-      by false g f =
-          let same : b ≡ blockOf input = cc in
-          omega (arith, over-least (written input) row, ap length f, ap (λ (x : Block). x .written) same)
+pub replies-within : (kept : ℕ) (input row out : List ℕ) (read : Read) → out ≡ over (writtenFor kept input) row → read ≡ readOf kept input
+    → repliesIn read ≤ length out
+unfolding readOf writtenFor
+replies-within kept input row out read e h = by (length input =? kept) h e
+  where
+    by : (t : Bool) → read ≡ (if t then Last (length (output shoushi input)) else Part (blockOf input))
+        → out ≡ over (if t then output shoushi input else written input) row
+        → repliesIn read ≤ length out
+    by true g f = omega (arith, ap repliesIn g, over-least (output shoushi input) row, ap length f)
+    by false g f = omega (arith, ap repliesIn g, over-least (written input) row, ap length f)
 
 -- the block is what was kept and then what was read
-pub part-left : (kept have : ℕ) (more : ℕ) (begun row buf : List ℕ) (b : Block) → have ≡ kept + more → take kept row ≡ begun
+part-left : (kept have : ℕ) (more : ℕ) (begun row buf : List ℕ) (b : Block) → have ≡ kept + more → take kept row ≡ begun
     → Part b ≡ readOf kept (take have row) → buf ≡ over (keptFor kept (take have row)) row → LeftOf begun (b .kept) buf
 unfolding readOf keptFor
 part-left kept have more begun row buf b e f h g = by (length (take have row) =? kept) h g
@@ -65,7 +54,18 @@ part-left kept have more begun row buf b e f h g = by (length (take have row) =?
           left = written-first (keptOf (take have row)) row buf (b .kept) (sym long) q ∙ ap keptOf input;
         }
 
--- so a turn leaves an unfinished line, or enough of it
+-- so a turn that goes on has kept what its block leaves
+pub turn-left : (kept have more : ℕ) (begun row buf : List ℕ) (read : Read) (went : Bool) (turn : Turn) → turn ≡ turnAfter read went
+    → have ≡ kept + more → take kept row ≡ begun → read ≡ readOf kept (take have row) → buf ≡ over (keptFor kept (take have row)) row
+    → Left turn begun buf
+turn-left kept have more begun row buf read went turn t e f h g = subst⁻¹ (λ (x : Turn). Left x begun buf) t (by read went h)
+  where
+    by : (r : Read) (w : Bool) → r ≡ readOf kept (take have row) → Left (turnAfter r w) begun buf
+    by (Last n) w p = tt
+    by (Part b) true p = part-left kept have more begun row buf b e f p g
+    by (Part b) false p = tt
+
+-- which is an unfinished line, or enough of it
 module _ (begun : List ℕ) (n : ℕ) (buf : List ℕ) (l : LeftOf begun n buf) where
   pub left-most : n ≤ enough
   left-most = omega (arith, l .counted, kept-most (begun ++ l .more))

@@ -1,5 +1,6 @@
 -- What was read, and what is done with it. What is read and written cannot be said, so each turn is held to what it has in hand.
 -- Assumes nothing.
+use mathlib.Core.Bool.{Bool}
 use mathlib.Core.Path.{_≡_}
 use mathlib.Core.List.{List, [], _++_}
 use Prim.Native.Nat.{ℕ}
@@ -23,6 +24,16 @@ writtenFor kept input = if length input =? kept then output shoushi input else w
 
 unfoldable pub keptFor : ℕ → List ℕ → List ℕ
 keptFor kept input = if length input =? kept then [] else keptOf input
+
+-- how many bytes are written for what was read
+abbrev pub repliesIn : Read → ℕ
+repliesIn (Last n) = n
+repliesIn (Part b) = b .written
+
+-- how a turn ends, by what was read and whether the replies went out: a block that was answered leaves a line to go on with
+abbrev pub turnAfter : Read → Bool → Turn
+turnAfter (Last n) went = Over
+turnAfter (Part b) went = if went then Kept (b .kept) else Over
 
 -- what a turn left at the buffer's start: what is kept of the bytes that were there and of more that were read
 pub record LeftOf (begun : List ℕ) (n : ℕ) (buf : List ℕ) : Type 0 where

@@ -12,7 +12,7 @@ ghost use Rattle.measure.specs.Row.{over};
 ghost use Rattle.reads.specs.Given.{Within};
 ghost use Rattle.lines.specs.Line.{replyRoom};
 ghost use Rattle.blocks.specs.Block.{enough, Unfinished};
-ghost use Rattle.month_lines.specs.Input.{readOf, writtenFor, keptFor, Left};
+ghost use Rattle.month_lines.specs.Input.{readOf, writtenFor, keptFor, repliesIn, turnAfter, Left};
 
 // What was read: no more, so that the last line was answered in so many bytes; or a block, which was answered.
 enum Read {
@@ -70,6 +70,32 @@ fn answer_read(buf: &mut [u8], kept: usize, have: usize, out: &mut [u8]) -> Read
     Read::Part(blocks::answer_block(buf, have, out))
 }
 
+// How many bytes the replies have.
+fn replies_in(read: Read) -> usize
+    ensures { λ r. ⌜ r ≡ repliesIn read ⌝ }
+{
+    match read {
+        Read::Last(n) => n,
+        Read::Part(block) => block.written,
+    }
+}
+
+// How a turn ends, where the replies went out or did not.
+fn turn_after(read: Read, went: bool) -> Turn
+    ensures { λ r. ⌜ r ≡ turnAfter read went ⌝ }
+{
+    match read {
+        Read::Last(_) => Turn::Over,
+        Read::Part(block) => {
+            if went {
+                Turn::Kept(block.kept)
+            } else {
+                Turn::Over
+            }
+        }
+    }
+}
+
 // One turn: reads, and writes the replies to what was read. A failed write ends it, and a failed read, which is told; a line that was begun
 // has no reply then: its end was not seen.
 fn one_turn(buf: &mut [u8], out: &mut [u8], kept: usize) -> Turn
@@ -84,20 +110,10 @@ fn one_turn(buf: &mut [u8], out: &mut [u8], kept: usize) -> Turn
         );
         return Turn::Over;
     };
-    match answer_read(buf, kept, kept + more, out) {
-        Read::Last(n) => {
-            write_out(&out[..n]);
-            Turn::Over
-        }
-        Read::Part(block) => {
-            let n = block.written;
-            if write_out(&out[..n]) {
-                Turn::Kept(block.kept)
-            } else {
-                Turn::Over
-            }
-        }
-    }
+    let read = answer_read(buf, kept, kept + more, out);
+    let n = replies_in(read);
+    let went = write_out(&out[..n]);
+    turn_after(read, went)
 }
 
 // Nothing says that the input ends, so the turns are counted down from a number that no run uses up.

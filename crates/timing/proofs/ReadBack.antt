@@ -13,11 +13,11 @@ use Rattle.moons.specs.Lunation.{lastLunation, lastQuarter}
 use Rattle.moons.specs.TrueMoon.{trueReply}
 use Rattle.year_rows.specs.Records.{yearRoom}
 use Rattle.lists.specs.Lists.{runAsked, runReply}
-use Rattle.timing.specs.Told.{numberTold}
-use Rattle.timing.specs.declared.Told.{Told}
+use Rattle.timing.specs.Timed.{numberTold}
+use Rattle.timing.specs.declared.Timed.{Timed}
 
 -- what a struct says
-unfoldable pub numberRead : Told → Reply ℕ
+unfoldable pub numberRead : Timed → Reply ℕ
 numberRead t = if t .refused =? 0 then answer (t .number) else refused (t .refused)
 
 -- a reply that is read back as it was

@@ -10,18 +10,18 @@ ghost use Rattle.moons.specs.TrueMoon.{trueReply};
 ghost use Rattle.edition.specs.Edition.{calendar};
 ghost use Rattle.year_rows.specs.Records.{recordWidth};
 ghost use Rattle.lists.specs.Lists.{runOf, runReply};
-ghost use Rattle.timing.specs.Told.{numberTold};
+ghost use Rattle.timing.specs.Timed.{numberTold};
 
 // An answer's number, with refused 0; a refusal has its number in refused, and 0 for the other.
 #[repr(C)]
-pub struct Told {
+pub struct Timed {
     pub refused: u64,
     pub number: u64,
 }
 
 // The true moon's running time.
 #[no_mangle]
-pub extern "C" fn timing_true_moon(l: u64, q: u64) -> Told
+pub extern "C" fn timing_true_moon(l: u64, q: u64) -> Timed
     ensures { λ r. ⌜ r ≡ numberTold (trueReply shoushi l q) ⌝ }
 {
     number_told(moons::true_moon(l, q))
@@ -29,22 +29,22 @@ pub extern "C" fn timing_true_moon(l: u64, q: u64) -> Told
 
 // The records of so many years; how many there are.
 #[no_mangle]
-pub extern "C" fn timing_run(row: &mut [u64], n: u64, count: u64) -> Told
+pub extern "C" fn timing_run(row: &mut [u64], n: u64, count: u64) -> Timed
     ensures { λ r. ⌜ r ≡ numberTold (runReply shoushi n count (length (now (row .entry)) / recordWidth)) ⌝ }
     ensures { λ _. ⌜ now (row .exit) ≡ rowAfter (runReply shoushi n count (length (now (row .entry)) / recordWidth)) (runOf (calendar shoushi) n count) (now (row .entry)) ⌝ }
 {
     number_told(lists::run(n, count, row))
 }
 
-fn number_told(a: Answer) -> Told
+fn number_told(a: Answer) -> Timed
     ensures { λ r. ⌜ r ≡ numberTold (answerSaid a) ⌝ }
 {
     match a {
-        Answer::Number(n) => Told {
+        Answer::Number(n) => Timed {
             refused: 0,
             number: n,
         },
-        Answer::Refused(k) => Told {
+        Answer::Refused(k) => Timed {
             refused: k,
             number: 0,
         },

@@ -1,10 +1,11 @@
 //! Months and days of a civil year, looked up in the calendar's lists.
 
 use super::question::{DayAsked, MonthAsked};
-use super::{outside, refused, Refused, MALFORMED, OUTSIDE_LIST, OUTSIDE_YEARS, YEARS};
+use super::{outside, refused, Refused, OUTSIDE_LIST, OUTSIDE_YEARS, YEARS};
 use crate::civil::CivilYear;
+use crate::command::MALFORMED;
 use crate::names;
-use crate::text::both;
+use crate::text::{both, numbered};
 use crate::{months_of, Month, Refusal};
 
 /// Returns a month of a civil year.
@@ -89,7 +90,7 @@ pub fn not_named(year: CivilYear, month: &Month, name: u64) -> Refused {
         Some((other, day)) => format!(
             "it is day {} of {}, running day {day}",
             day - u64::from(other.first) + 1,
-            month_name(&other),
+            numbered(&other),
         ),
         None => {
             let first = u64::from(month.first);
@@ -162,16 +163,7 @@ fn part_told(year: CivilYear) -> String {
     part_only(year).map_or_else(String::new, |note| format!("; {note}"))
 }
 
-/// Returns a month by its number.
-fn month_name(month: &Month) -> String {
-    if month.leap {
-        format!("leap month {}", month.number)
-    } else {
-        format!("month {}", month.number)
-    }
-}
-
 /// Returns a month with its civil year.
 fn of_civil(year: CivilYear, month: &Month) -> String {
-    format!("{} of civil year {}", month_name(month), year.0)
+    format!("{} of civil year {}", numbered(month), year.0)
 }

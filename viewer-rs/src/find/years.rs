@@ -1,8 +1,9 @@
 //! The civil years that a question may mean, and what is told of their eras.
 
 use super::question::{Civil, Year};
-use super::{inside, refused, Answer, Meant, Refused, MALFORMED, OUTSIDE_YEARS};
+use super::{inside, refused, Answer, Meant, Refused, OUTSIDE_YEARS};
 use crate::civil::{CivilYear, Era, EraYear};
+use crate::command::MALFORMED;
 use crate::month_of;
 use crate::names;
 use crate::text::both;

@@ -1,11 +1,20 @@
 -- `month_lines::one_turn` meets its contract. Assumes nothing.
-use mathlib.Core.Path.{_∙_, refl, sym}
+use mathlib.Core.Path.{refl, sym}
+use Prim.Native.Nat.{_≤_}
 use native.Mathlib.Omega.{arith}
 use borrow.Author.Needs.{needs}
+use lib.ListN.{length}
 use lib.Seq.{length-take-le}
-use Rattle.month_lines.proofs.ReadLaws.{last-within, part-within, part-left}
+use Rattle.month_lines.proofs.ReadLaws.{replies-within, turn-left}
 use Rattle.month_lines.proofs.one_turn.Statement.{statement}
 use Rattle.month_lines.proofs.one_turn.Tie as tie
+
+-- the replies lie in their row
+within : (c : tie.After-replies-in)
+    → c .replies-in .result ≤ length (c .before .before .before .before .before .answer-read .last .1 .1 .1 .0)
+within c =
+    let read = c .before .before .before .before .before in
+    omega (arith, c .replies-in .ensures, replies-within _ _ _ _ _ (read .answer-read .ensures .1 .0) (read .answer-read .ensures .0))
 
 fill-requires : tie.Need-fill-requires
 fill-requires c κs = search needs
@@ -40,39 +49,20 @@ answer-read-requires c κs =
     let fits = rw (c .before .before .before .more .given .1) at (filled .fill .ensures .0) in
     omega (arith, fits)
 
-enum-known-n : tie.Need-enum-known-n
-enum-known-n c = search needs
+replies-in-requires : tie.Need-replies-in-requires
+replies-in-requires c κs = search needs
 
 slice-reshare-prefix-write-out : tie.Need-slice-reshare-prefix-write-out
-slice-reshare-prefix-write-out c =
-    let read = c .before .before .before .before .before .before .before in
-    last-within _ _ _ _ (read .answer-read .ensures .1 .0) _ (sym (c .before .n .given .1) ∙ read .answer-read .ensures .0)
+slice-reshare-prefix-write-out c = within c
 
 slice-aggregate-write-out : tie.Need-slice-aggregate-write-out
-slice-aggregate-write-out c =
-    let read = c .before .before .before .before .before .before .before .before in
-    let fits = last-within _ _ _ _ (read .answer-read .ensures .1 .0) _ (sym (c .before .before .n .given .1) ∙ read .answer-read .ensures .0) in
-    sym (length-take-le _ _ fits)
+slice-aggregate-write-out c = sym (length-take-le _ _ (within (c .before)))
 
 write-out-requires : tie.Need-write-out-requires
 write-out-requires c κs = search needs
 
-enum-known-block : tie.Need-enum-known-block
-enum-known-block c = search needs
-
-slice-reshare-prefix-write-out-2 : tie.Need-slice-reshare-prefix-write-out-2
-slice-reshare-prefix-write-out-2 c =
-    let read = c .before .before .before .before .before .before .before in
-    part-within _ _ _ _ (read .answer-read .ensures .1 .0) _ (sym (c .before .block .given .1) ∙ read .answer-read .ensures .0)
-
-slice-aggregate-write-out-2 : tie.Need-slice-aggregate-write-out-2
-slice-aggregate-write-out-2 c =
-    let read = c .before .before .before .before .before .before .before .before in
-    let fits = part-within _ _ _ _ (read .answer-read .ensures .1 .0) _ (sym (c .before .before .block .given .1) ∙ read .answer-read .ensures .0) in
-    sym (length-take-le _ _ fits)
-
-write-out-requires-2 : tie.Need-write-out-requires-2
-write-out-requires-2 c κs = search needs
+turn-after-requires : tie.Need-turn-after-requires
+turn-after-requires c κs = search needs
 
 same-length-2 : tie.Need-same-length-2
 same-length-2 c = search needs
@@ -81,31 +71,11 @@ same-length-3 : tie.Need-same-length-3
 same-length-3 c = search needs
 
 returns-2 : tie.Need-returns-2
-returns-2 c = search needs
-
-same-length-4 : tie.Need-same-length-4
-same-length-4 c = search needs
-
-same-length-5 : tie.Need-same-length-5
-same-length-5 c = search needs
-
--- what is kept is what the block left
-returns-3 : tie.Need-returns-3
-returns-3 c =
-    let part = c .before .before .before .before in
-    let read = part .before .before .before .before .before .before in
+returns-2 c =
+    let read = c .before .before .before .before .before .before .before .before in
     let filled = read .before .before .before .before .before .before .before .before in
-    part-left _ _ _ _ _ _ _ refl (filled .fill .ensures .1) (sym (part .block .given .1) ∙ read .answer-read .ensures .0)
+    turn-left _ _ _ _ _ _ _ _ _ (c .turn-after .ensures) refl (filled .fill .ensures .1) (read .answer-read .ensures .0)
     (read .answer-read .ensures .1 .1)
-
-same-length-6 : tie.Need-same-length-6
-same-length-6 c = search needs
-
-same-length-7 : tie.Need-same-length-7
-same-length-7 c = search needs
-
-returns-4 : tie.Need-returns-4
-returns-4 c = search needs
 
 pub one-turn-spec : {M : Type 1} → statement M
 one-turn-spec =
@@ -120,20 +90,11 @@ one-turn-spec =
     returns
     add-answer-read
     answer-read-requires
-    enum-known-n
+    replies-in-requires
     slice-reshare-prefix-write-out
     slice-aggregate-write-out
     write-out-requires
-    enum-known-block
-    slice-reshare-prefix-write-out-2
-    slice-aggregate-write-out-2
-    write-out-requires-2
+    turn-after-requires
     same-length-2
     same-length-3
-    returns-2
-    same-length-4
-    same-length-5
-    returns-3
-    same-length-6
-    same-length-7
-    returns-4)
+    returns-2)

@@ -1,7 +1,7 @@
 -- `timing::timing_run` meets its contract. Assumes nothing.
 use mathlib.Core.Path.{_∙_, ap}
 use borrow.Author.Needs.{needs}
-use Rattle.timing.specs.Told.{numberTold}
+use Rattle.timing.specs.Timed.{numberTold}
 use Rattle.timing.proofs.timing_run.Statement.{statement}
 use Rattle.timing.proofs.timing_run.Tie as tie
 

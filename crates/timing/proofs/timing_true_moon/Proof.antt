@@ -1,7 +1,7 @@
 -- `timing::timing_true_moon` meets its contract. Assumes nothing.
 use mathlib.Core.Path.{_∙_, ap}
 use borrow.Author.Needs.{needs}
-use Rattle.timing.specs.Told.{numberTold}
+use Rattle.timing.specs.Timed.{numberTold}
 use Rattle.timing.proofs.timing_true_moon.Statement.{statement}
 use Rattle.timing.proofs.timing_true_moon.Tie as tie
 
