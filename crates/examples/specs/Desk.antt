@@ -17,10 +17,12 @@ use Rattle.lunar.specs.Lunar.{lunarMagnitude, lunarAtReply}
 use Rattle.motions.specs.Motion.{motionAtReply}
 use Rattle.seasons.specs.Solstice.{solsticeReply, solstice}
 use Rattle.seasons.specs.Terms.{term, termReply, termList, termsReply}
-use Rattle.questions.specs.Text.{same}
+use Rattle.words.specs.Text.{same}
+use Rattle.words.specs.Line.{wordOf, afterWord}
+use Rattle.words.specs.Choice.{chosen}
 use Rattle.words.specs.Ascii.{bytesOf}
 use Rattle.questions.specs.Told.{Told, refusal, nothing, numbers, moment, terms, year, years, help, signed, month, constants}
-use Rattle.questions.specs.Question.{_among_, alone, withOne, withTwo, solarIn, lunarIn, motionIn, withHalf, wordOf, afterWord, replyTo}
+use Rattle.questions.specs.Question.{alone, withOne, withTwo, solarIn, lunarIn, motionIn, withHalf, replyTo}
 use lib.IntN.{pos, negsuc}
 use Rattle.measure.specs.Reply.{answer, refused}
 use Rattle.kinds.specs.Kind.{leap}
@@ -49,12 +51,12 @@ answered :
     × ("years 1 019" gets years 1 19)
     × ("terms 5" gets terms 5)
     × ("constants" gets constants)
-unfolding digits value isNumber numberOf indexOf indexAfter endOf partOf restOf numbersOf hourReply doubleHour ke extraReply extraDay solsticeReply solstice same _among_ alone withOne withTwo wordOf afterWord replyTo
+unfolding digits value isNumber numberOf indexOf indexAfter endOf partOf restOf numbersOf hourReply doubleHour ke extraReply extraDay solsticeReply solstice same chosen alone withOne withTwo wordOf afterWord replyTo
 answered = (refl, refl, refl, refl, refl, refl, refl, refl, refl)
 
 -- a month, what is ahead and what is behind
 day-answered : "day 340" gets month (record { kind = leap 8; year = 0; place = 10; day = 12; first = 329; length = 30 })
-unfolding digits value isNumber numberOf indexOf indexAfter endOf partOf restOf numbersOf same _among_ withOne wordOf afterWord replyTo
+unfolding digits value isNumber numberOf indexOf indexAfter endOf partOf restOf numbersOf same chosen withOne wordOf afterWord replyTo
 day-answered = simp (months .days .2)
 
 signed-answered :
@@ -62,12 +64,12 @@ signed-answered :
     × ("solar-at slow 9371202500" gets signed (negsuc 240_132_543))
     × ("lunar-at quick 3" gets signed (pos 3))
     × ("lunar-at tardy 688524590" gets signed (negsuc 542_337_599))
-unfolding digits value isNumber numberOf indexOf indexAfter endOf partOf restOf numbersOf law lawTaken fastAt slowAt solarAtReply lunarMagnitude lunarAtReply integer same _among_ solarIn lunarIn withHalf wordOf afterWord replyTo
+unfolding digits value isNumber numberOf indexOf indexAfter endOf partOf restOf numbersOf law lawTaken fastAt slowAt solarAtReply lunarMagnitude lunarAtReply integer same chosen solarIn lunarIn withHalf wordOf afterWord replyTo
 signed-answered = (refl, refl, refl, refl)
 
 -- by the calendar, where the question is one
 outside : ("term 1000 0" gets refusal 1) × ("motion-at quick 168" gets refusal 2)
-unfolding digits value isNumber numberOf indexOf indexAfter endOf partOf restOf numbersOf motionAtReply termReply same _among_ withTwo motionIn withHalf wordOf afterWord replyTo
+unfolding digits value isNumber numberOf indexOf indexAfter endOf partOf restOf numbersOf motionAtReply termReply same chosen withTwo motionIn withHalf wordOf afterWord replyTo
 outside = (refl, refl)
 
 -- no question: a number too few, one too many, two blanks, no number, a half of the sun's asked of the moon, no word
@@ -78,7 +80,7 @@ no-question :
     × ("year -1" gets refusal 5)
     × ("lunar-at slow 0" gets refusal 5)
     × ("" gets refusal 5)
-unfolding digits value isNumber numberOf indexOf indexAfter endOf partOf restOf numbersOf same _among_ alone withOne lunarIn withHalf wordOf afterWord replyTo
+unfolding digits value isNumber numberOf indexOf indexAfter endOf partOf restOf numbersOf same chosen alone withOne lunarIn withHalf wordOf afterWord replyTo
 no-question = (refl, refl, refl, refl, refl, refl)
 
 -- a refusal, and what there is none of

@@ -1,4 +1,2 @@
 pub mod Told
-pub mod Text
-pub mod Place
 pub mod Question

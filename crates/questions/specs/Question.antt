@@ -1,11 +1,11 @@
 -- The questions: which words there are, which numbers follow each, and the reply. A question is words and decimal numbers with
 -- one blank between them, and whatever is no question is refused.
 -- Assumes nothing.
-use Prim.Native.Nat.{ℕ, zero, suc}
-use Prim.Native.String.{String}
+use Prim.Native.Nat.{ℕ}
 use mathlib.Core.List.{List, [], _∷_}
-use lib.ListN.{length, take, drop}
-use Rattle.bytes.specs.Bytes.{indexOf}
+use lib.ListN.{length}
+use Rattle.words.specs.Line.{wordOf, afterWord}
+use Rattle.words.specs.Choice.{Choices, chosen, choiceAt}
 use Rattle.words.specs.Numbers.{partOf, restOf, numbersOf}
 use Rattle.words.specs.declared.Numbers.{Numbers}
 use Rattle.words.specs.declared.Numbers.the-variants.{Nothing, One, Two, Three, Other}
@@ -28,7 +28,6 @@ use Rattle.moons.specs.TrueMoon.{solarReply, lunarReply, motionReply, correctio
 use Rattle.months.specs.Head.{headReply}
 use Rattle.months.specs.Month.{dayReply}
 use Rattle.dates.specs.Date.{backReply}
-use Rattle.questions.specs.Text.{_is_}
 use Rattle.questions.specs.Told.{Told, refusal, nothing, numbers, signed, month, moment, terms, year, years, constants, help, told}
 
 -- the reply to what is no question
@@ -37,19 +36,16 @@ malformed = refusal badLine
 
 -- words, with the reply to each
 abbrev pub Questions : Type 0
-Questions = List (String × Told)
+Questions = Choices Told
 
 infix 40 _among_
 infix 40 _at_
-unfoldable pub _among_ : List ℕ → Questions → Told
-word among [] = malformed
-word among (q ∷ more) = if word is q .0 then q .1 else word among more
+abbrev pub _among_ : List ℕ → Questions → Told
+word among qs = chosen malformed word qs
 
 -- the reply at a place, counted from 0
-unfoldable pub _at_ : Questions → ℕ → Told
-[] at k = malformed
-(q ∷ more) at zero = q .1
-(q ∷ more) at suc k = more at k
+abbrev pub _at_ : Questions → ℕ → Told
+qs at k = choiceAt malformed qs k
 
 -- what is told of a number, of a double-hour and its ke, of a day's name, and of the days to add
 abbrev pub number : ℕ → Told
@@ -146,16 +142,9 @@ onNumbers e word rest (Two n i) = word among withTwo e n i
 onNumbers e word rest (Three n i p) = word among withThree e n i p
 onNumbers e word rest Other = onHalf word (partOf rest) (numbersOf (restOf rest))
 
--- the word with which a line starts: what stands before the first blank
-unfoldable pub wordOf : List ℕ → List ℕ
-wordOf line = take (indexOf 32 line) line
-
-unfoldable pub afterWord : List ℕ → List ℕ
-afterWord line = drop (indexOf 32 line) line
-
 -- the longest line that is answered
 abbrev pub longest : ℕ
-longest = 255
+longest = 1_023
 
 unfoldable pub replyTo : Epoch → List ℕ → Told
 replyTo e line =

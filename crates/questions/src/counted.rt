@@ -1,6 +1,5 @@
 // The questions by how many numbers follow the word. A list has the words, and a word's place in it picks the reply.
 use crate::Reply;
-use crate::place::place_of;
 use crate::said::days_on;
 use crate::said::hour_of;
 use crate::said::moment_of;
@@ -9,6 +8,7 @@ use crate::said::name_of;
 use crate::said::number_of;
 use crate::said::signed_of;
 use measure::BAD_LINE;
+use words::place_of;
 ghost use mathlib.Core.Path.{_≡_};
 ghost use Rattle.measure.specs.Epoch.{shoushi};
 ghost use Rattle.questions.specs.Told.{toldIn};

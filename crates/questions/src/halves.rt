@@ -1,13 +1,13 @@
 // The inequalities and the motion asked directly: a half, and a time or a whole limit in it. Words and halves are found by
 // their place in a list.
 use crate::Reply;
-use crate::place::place_of;
 use crate::said::number_of;
 use crate::said::signed_of;
 use limits::LunarHalf;
 use measure::BAD_LINE;
 use solar::SolarHalf;
 use words::Numbers;
+use words::place_of;
 ghost use mathlib.Core.Path.{_≡_};
 ghost use Rattle.words.specs.Numbers.{partOf, restOf, numbersOf};
 ghost use Rattle.questions.specs.Told.{toldIn};

@@ -1,7 +1,6 @@
 // From a line of text to the reply that it gets.
 mod counted;
 mod halves;
-mod place;
 mod said;
 
 use measure::BAD_LINE;
@@ -36,7 +35,7 @@ pub enum Reply {
 }
 
 // The longest line that is answered.
-pub const LONGEST: usize = 255;
+pub const LONGEST: usize = 1_023;
 
 // The reply to a line: its first word says what is asked, and the rest of what.
 pub fn ask(line: &[u8]) -> Reply
@@ -45,8 +44,7 @@ pub fn ask(line: &[u8]) -> Reply
     if line.len() > LONGEST {
         return Reply::Refused(BAD_LINE);
     }
-    let n = bytes::scan::find(line, 0, line.len(), b' ');
-    by_numbers(&line[0..n], &line[n..])
+    by_numbers(words::word_in(line), words::after_word(line))
 }
 
 // The numbers are read once. Where the rest is no numbers, it starts with a half.

@@ -5,6 +5,15 @@ use borrow.Fn.Kinds.{endedOf}
 use denote.Ref.{now}
 use denote.Triple.Clauses.{AtExit}
 use mathlib.Core.Path.{_≡_, _∙_, sym}
+use Rattle.measure.proofs.Determined.{OneReply}
+use Rattle.words.proofs.word_in as word-in
+use Rattle.words.proofs.word_in.Kinds as word-in-kinds
+use Rattle.words.proofs.word_in.Reads as word-in-reads
+use Rattle.words.proofs.after_word as after-word
+use Rattle.words.proofs.after_word.Kinds as after-word-kinds
+use Rattle.words.proofs.after_word.Reads as after-word-reads
+use Rattle.words.proofs.place_of.Kinds as place-of
+use Rattle.words.proofs.place_of.Reads as place-of-reads
 use Rattle.words.proofs.numbers_in as numbers-in
 use Rattle.words.proofs.numbers_in.Kinds as numbers-in-kinds
 use Rattle.words.proofs.numbers_in.Reads as numbers-in-reads
@@ -14,6 +23,16 @@ use Rattle.words.proofs.part_in.Reads as part-in-reads
 use Rattle.words.proofs.rest_in as rest-in
 use Rattle.words.proofs.rest_in.Kinds as rest-in-kinds
 use Rattle.words.proofs.rest_in.Reads as rest-in-reads
+
+pub word-in-unique : (κs : Lfts 1) (a : ArgsD word-in.signature κs) (r₁ r₂ : ResD word-in.signature κs)
+    (s₁ s₂ : AtExit (endedOf 1 word-in-kinds.ps word-in-kinds.r) κs)
+    → word-in-reads.Post κs a r₁ s₁ → word-in-reads.Post κs a r₂ s₂ → now r₁ ≡ now r₂
+word-in-unique κs a r₁ r₂ s₁ s₂ p₁ p₂ = p₁ ∙ sym p₂
+
+pub after-word-unique : (κs : Lfts 1) (a : ArgsD after-word.signature κs) (r₁ r₂ : ResD after-word.signature κs)
+    (s₁ s₂ : AtExit (endedOf 1 after-word-kinds.ps after-word-kinds.r) κs)
+    → after-word-reads.Post κs a r₁ s₁ → after-word-reads.Post κs a r₂ s₂ → now r₁ ≡ now r₂
+after-word-unique κs a r₁ r₂ s₁ s₂ p₁ p₂ = p₁ ∙ sym p₂
 
 pub numbers-in-unique : (κs : Lfts 1) (a : ArgsD numbers-in.signature κs) (r₁ r₂ : ResD numbers-in.signature κs)
     (s₁ s₂ : AtExit (endedOf 1 numbers-in-kinds.ps numbers-in-kinds.r) κs)
@@ -29,3 +48,6 @@ pub rest-in-unique : (κs : Lfts 1) (a : ArgsD rest-in.signature κs) (r₁ r₂
     (s₁ s₂ : AtExit (endedOf 1 rest-in-kinds.ps rest-in-kinds.r) κs)
     → rest-in-reads.Post κs a r₁ s₁ → rest-in-reads.Post κs a r₂ s₂ → now r₁ ≡ now r₂
 rest-in-unique κs a r₁ r₂ s₁ s₂ p₁ p₂ = p₁ ∙ sym p₂
+
+pub place-of-unique : OneReply place-of.ps place-of.r place-of-reads.Post
+place-of-unique κs a x y s t p q = p ∙ sym q

@@ -1,2 +1,6 @@
-pub mod Numbers
 pub mod Ascii
+pub mod Line
+pub mod Text
+pub mod Numbers
+pub mod Place
+pub mod Choice

@@ -1,8 +1,10 @@
-// The parts of a line of text, and the numbers among them.
+// The words and parts of a line of text, and the numbers among them.
 use decimals::Number;
 use decimals::number_in;
 ghost use mathlib.Core.Path.{_≡_};
+ghost use Rattle.words.specs.Line.{wordOf, afterWord};
 ghost use Rattle.words.specs.Numbers.{partOf, restOf, first, second, third, numbersOf};
+ghost use Rattle.words.specs.Place.{placeOf};
 ghost use Rattle.decimals.specs.declared.Number.the-variants.{Value};
 
 // Up to three numbers; Other where there are more, or something else.
@@ -12,6 +14,22 @@ pub enum Numbers {
     Two(u64, u64),
     Three(u64, u64, u64),
     Other,
+}
+
+// The word with which a line starts, as far as the first blank.
+pub fn word_in<'a>(line: &'a [u8]) -> &'a [u8]
+    ensures { λ r. ⌜ now r ≡ wordOf (now (line .entry)) ⌝ }
+{
+    let end = bytes::scan::find(line, 0, line.len(), b' ');
+    &line[0..end]
+}
+
+// What follows that word: from the first blank on.
+pub fn after_word<'a>(line: &'a [u8]) -> &'a [u8]
+    ensures { λ r. ⌜ now r ≡ afterWord (now (line .entry)) ⌝ }
+{
+    let end = bytes::scan::find(line, 0, line.len(), b' ');
+    &line[end..]
 }
 
 // The numbers of s, each with one blank before it.
@@ -84,4 +102,21 @@ pub fn rest_in<'a>(s: &'a [u8]) -> &'a [u8]
     }
     let from = bytes::scan::find(s, 1, s.len(), b' ');
     &s[from..]
+}
+
+// How many words of a list stand before this one: all, where it is not there. Each has one blank before it.
+pub fn place_of(word: &[u8], list: &[u8]) -> usize
+    ensures { λ r. ⌜ r ≡ placeOf (now (word .entry)) (now (list .entry)) ⌝ }
+{
+    let mut left = list;
+    let mut k: usize = 0;
+    while 0 < left.len() {
+        if check::same(word, part_in(left)) {
+            return k;
+        }
+        let rest = rest_in(left);
+        left = rest;
+        k += 1;
+    }
+    k
 }

@@ -5,9 +5,9 @@ use borrow.Author.Needs.{needs}
 use denote.Ref.{now}
 use Rattle.bytes.specs.Bytes.{indexOf, indexAfter}
 use Rattle.words.specs.Numbers.{endOf, partOf, restOf}
-use Rattle.questions.specs.Place.{placeWithin, placeOf}
-use Rattle.questions.specs.Question.{alone}
-use Rattle.questions.proofs.Among.{placed}
+use Rattle.words.specs.Place.{placeWithin, placeOf}
+use Rattle.questions.specs.Question.{malformed, alone}
+use Rattle.words.proofs.Chosen.{placed}
 use Rattle.questions.proofs.counted.alone.Statement.{statement}
 use Rattle.questions.proofs.counted.alone.Tie as tie
 
@@ -24,7 +24,7 @@ returns : tie.Need-returns
 unfolding indexOf indexAfter endOf partOf restOf placeWithin placeOf alone
 returns c =
     let args = c .before .before .before .before .args in
-    c .alone-at .ensures ∙ placed (now (args .word)) alone (c .before .place-of .result) (c .before .place-of .ensures)
+    c .alone-at .ensures ∙ placed malformed (now (args .word)) alone (c .before .place-of .result) (c .before .place-of .ensures)
 
 pub alone-spec : {M : Type 1} → statement M
 alone-spec =

@@ -1,8 +1,9 @@
 -- `questions::counted::one_at` meets its contract. Assumes nothing.
 use borrow.Author.Needs.{needs}
 use Rattle.measure.specs.Epoch.{shoushi}
-use Rattle.questions.specs.Question.{_at_, withOne}
-use Rattle.questions.proofs.Among.{no-place}
+use Rattle.words.specs.Choice.{choiceAt}
+use Rattle.questions.specs.Question.{malformed, withOne}
+use Rattle.words.proofs.Chosen.{no-place}
 use Rattle.questions.proofs.counted.one_at.Statement.{statement}
 use Rattle.questions.proofs.counted.one_at.Tie as tie
 
@@ -49,46 +50,46 @@ days-on-requires-2 : tie.Need-days-on-requires-2
 days-on-requires-2 c κs = search needs
 
 returns : tie.Need-returns
-unfolding _at_ withOne
+unfolding choiceAt withOne
 returns c = simp (c .moment-of .ensures, c .before .solstice .ensures, c .before .before .match .keys1)
 
 returns-2 : tie.Need-returns-2
-unfolding _at_ withOne
+unfolding choiceAt withOne
 returns-2 c = simp (c .match .keys2)
 
 returns-3 : tie.Need-returns-3
-unfolding _at_ withOne
+unfolding choiceAt withOne
 returns-3 c = simp (c .number-of .ensures, c .before .head .ensures, c .before .before .match .keys3)
 
 returns-4 : tie.Need-returns-4
-unfolding _at_ withOne
+unfolding choiceAt withOne
 returns-4 c = simp (c .match .keys4)
 
 returns-5 : tie.Need-returns-5
-unfolding _at_ withOne
+unfolding choiceAt withOne
 returns-5 c = simp (c .month-of2 .ensures, c .before .month-of .ensures, c .before .before .match .keys5)
 
 returns-6 : tie.Need-returns-6
-unfolding _at_ withOne
+unfolding choiceAt withOne
 returns-6 c = simp (c .name-of2 .ensures, c .before .name-of .ensures, c .before .before .match .keys6)
 
 returns-7 : tie.Need-returns-7
-unfolding _at_ withOne
+unfolding choiceAt withOne
 returns-7 c = simp (c .hour-of .ensures, c .before .double-hour .ensures, c .before .before .match .keys7)
 
 returns-8 : tie.Need-returns-8
-unfolding _at_ withOne
+unfolding choiceAt withOne
 returns-8 c = simp (c .days-on .ensures, c .before .extra-day .ensures, c .before .before .match .keys8)
 
 returns-9 : tie.Need-returns-9
-unfolding _at_ withOne
+unfolding choiceAt withOne
 returns-9 c = simp (c .days-on2 .ensures, c .before .vanishing-day .ensures, c .before .before .match .keys9)
 
 returns-10 : tie.Need-returns-10
 unfolding withOne
 returns-10 c =
     let args = c .before .args in
-    no-place (withOne shoushi (args .n)) (args .k) (c .match .rest)
+    no-place malformed (withOne shoushi (args .n)) (args .k) (c .match .rest)
 
 pub one-at-spec : {M : Type 1} → statement M
 one-at-spec =

@@ -1,8 +1,9 @@
 -- `questions::counted::three_at` meets its contract. Assumes nothing.
 use borrow.Author.Needs.{needs}
 use Rattle.measure.specs.Epoch.{shoushi}
-use Rattle.questions.specs.Question.{_at_, withThree}
-use Rattle.questions.proofs.Among.{no-place}
+use Rattle.words.specs.Choice.{choiceAt}
+use Rattle.questions.specs.Question.{malformed, withThree}
+use Rattle.words.proofs.Chosen.{no-place}
 use Rattle.questions.proofs.counted.three_at.Statement.{statement}
 use Rattle.questions.proofs.counted.three_at.Tie as tie
 
@@ -19,18 +20,18 @@ number-of-requires : tie.Need-number-of-requires
 number-of-requires c κs = search needs
 
 returns : tie.Need-returns
-unfolding _at_ withThree
+unfolding choiceAt withThree
 returns c = simp (c .moment-of .ensures, c .before .pentad .ensures, c .before .before .match .keys1)
 
 returns-2 : tie.Need-returns-2
-unfolding _at_ withThree
+unfolding choiceAt withThree
 returns-2 c = simp (c .number-of .ensures, c .before .day-at .ensures, c .before .before .match .keys2)
 
 returns-3 : tie.Need-returns-3
 unfolding withThree
 returns-3 c =
     let args = c .before .args in
-    no-place (withThree shoushi (args .n) (args .i) (args .p)) (args .k) (c .match .rest)
+    no-place malformed (withThree shoushi (args .n) (args .i) (args .p)) (args .k) (c .match .rest)
 
 pub three-at-spec : {M : Type 1} → statement M
 three-at-spec =

@@ -1,8 +1,9 @@
 -- `questions::counted::two_at` meets its contract. Assumes nothing.
 use borrow.Author.Needs.{needs}
 use Rattle.measure.specs.Epoch.{shoushi}
-use Rattle.questions.specs.Question.{_at_, withTwo}
-use Rattle.questions.proofs.Among.{no-place}
+use Rattle.words.specs.Choice.{choiceAt}
+use Rattle.questions.specs.Question.{malformed, withTwo}
+use Rattle.words.proofs.Chosen.{no-place}
 use Rattle.questions.proofs.counted.two_at.Statement.{statement}
 use Rattle.questions.proofs.counted.two_at.Tie as tie
 
@@ -55,46 +56,46 @@ signed-of-requires-3 : tie.Need-signed-of-requires-3
 signed-of-requires-3 c κs = search needs
 
 returns : tie.Need-returns
-unfolding _at_ withTwo
+unfolding choiceAt withTwo
 returns c = simp (c .moment-of .ensures, c .before .term .ensures, c .before .before .match .keys1)
 
 returns-2 : tie.Need-returns-2
-unfolding _at_ withTwo
+unfolding choiceAt withTwo
 returns-2 c = simp (c .moment-of2 .ensures, c .before .earth .ensures, c .before .before .match .keys2)
 
 returns-3 : tie.Need-returns-3
-unfolding _at_ withTwo
+unfolding choiceAt withTwo
 returns-3 c = simp (c .match .keys3)
 
 returns-4 : tie.Need-returns-4
-unfolding _at_ withTwo
+unfolding choiceAt withTwo
 returns-4 c = simp (c .moment-of3 .ensures, c .before .mean .ensures, c .before .before .match .keys4)
 
 returns-5 : tie.Need-returns-5
-unfolding _at_ withTwo
+unfolding choiceAt withTwo
 returns-5 c = simp (c .moment-of4 .ensures, c .before .true-moon .ensures, c .before .before .match .keys5)
 
 returns-6 : tie.Need-returns-6
-unfolding _at_ withTwo
+unfolding choiceAt withTwo
 returns-6 c = simp (c .number-of .ensures, c .before .motion .ensures, c .before .before .match .keys6)
 
 returns-7 : tie.Need-returns-7
-unfolding _at_ withTwo
+unfolding choiceAt withTwo
 returns-7 c = simp (c .signed-of .ensures, c .before .solar .ensures, c .before .before .match .keys7)
 
 returns-8 : tie.Need-returns-8
-unfolding _at_ withTwo
+unfolding choiceAt withTwo
 returns-8 c = simp (c .signed-of2 .ensures, c .before .lunar .ensures, c .before .before .match .keys8)
 
 returns-9 : tie.Need-returns-9
-unfolding _at_ withTwo
+unfolding choiceAt withTwo
 returns-9 c = simp (c .signed-of3 .ensures, c .before .correction .ensures, c .before .before .match .keys9)
 
 returns-10 : tie.Need-returns-10
 unfolding withTwo
 returns-10 c =
     let args = c .before .args in
-    no-place (withTwo shoushi (args .n) (args .i)) (args .k) (c .match .rest)
+    no-place malformed (withTwo shoushi (args .n) (args .i)) (args .k) (c .match .rest)
 
 pub two-at-spec : {M : Type 1} → statement M
 two-at-spec =

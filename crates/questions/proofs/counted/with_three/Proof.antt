@@ -6,9 +6,9 @@ use denote.Ref.{now}
 use Rattle.bytes.specs.Bytes.{indexOf, indexAfter}
 use Rattle.words.specs.Numbers.{endOf, partOf, restOf}
 use Rattle.measure.specs.Epoch.{shoushi}
-use Rattle.questions.specs.Place.{placeWithin, placeOf}
-use Rattle.questions.specs.Question.{withThree}
-use Rattle.questions.proofs.Among.{placed}
+use Rattle.words.specs.Place.{placeWithin, placeOf}
+use Rattle.questions.specs.Question.{malformed, withThree}
+use Rattle.words.proofs.Chosen.{placed}
 use Rattle.questions.proofs.counted.with_three.Statement.{statement}
 use Rattle.questions.proofs.counted.with_three.Tie as tie
 
@@ -25,7 +25,7 @@ returns : tie.Need-returns
 unfolding indexOf indexAfter endOf partOf restOf placeWithin placeOf withThree
 returns c =
     let args = c .before .before .before .before .args in
-    c .three-at .ensures ∙ placed (now (args .word)) (withThree shoushi (args .n) (args .i) (args .p)) (c .before .place-of .result) (c .before .place-of .ensures)
+    c .three-at .ensures ∙ placed malformed (now (args .word)) (withThree shoushi (args .n) (args .i) (args .p)) (c .before .place-of .result) (c .before .place-of .ensures)
 
 pub with-three-spec : {M : Type 1} → statement M
 with-three-spec =

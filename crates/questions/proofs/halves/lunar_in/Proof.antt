@@ -5,9 +5,9 @@ use borrow.Author.Needs.{needs}
 use denote.Ref.{now}
 use Rattle.bytes.specs.Bytes.{indexOf, indexAfter}
 use Rattle.words.specs.Numbers.{endOf, partOf, restOf}
-use Rattle.questions.specs.Place.{placeWithin, placeOf}
-use Rattle.questions.specs.Question.{lunarIn}
-use Rattle.questions.proofs.Among.{placed}
+use Rattle.words.specs.Place.{placeWithin, placeOf}
+use Rattle.questions.specs.Question.{malformed, lunarIn}
+use Rattle.words.proofs.Chosen.{placed}
 use Rattle.questions.proofs.halves.lunar_in.Statement.{statement}
 use Rattle.questions.proofs.halves.lunar_in.Tie as tie
 
@@ -24,7 +24,7 @@ returns : tie.Need-returns
 unfolding indexOf indexAfter endOf partOf restOf placeWithin placeOf lunarIn
 returns c =
     let args = c .before .before .before .before .args in
-    c .lunar-at .ensures ∙ placed (now (args .half)) (lunarIn (args .t)) (c .before .place-of .result) (c .before .place-of .ensures)
+    c .lunar-at .ensures ∙ placed malformed (now (args .half)) (lunarIn (args .t)) (c .before .place-of .result) (c .before .place-of .ensures)
 
 pub lunar-in-spec : {M : Type 1} → statement M
 lunar-in-spec =

@@ -5,9 +5,9 @@ use borrow.Author.Needs.{needs}
 use denote.Ref.{now}
 use Rattle.bytes.specs.Bytes.{indexOf, indexAfter}
 use Rattle.words.specs.Numbers.{endOf, partOf, restOf}
-use Rattle.questions.specs.Place.{placeWithin, placeOf}
-use Rattle.questions.specs.Question.{motionIn}
-use Rattle.questions.proofs.Among.{placed}
+use Rattle.words.specs.Place.{placeWithin, placeOf}
+use Rattle.questions.specs.Question.{malformed, motionIn}
+use Rattle.words.proofs.Chosen.{placed}
 use Rattle.questions.proofs.halves.motion_in.Statement.{statement}
 use Rattle.questions.proofs.halves.motion_in.Tie as tie
 
@@ -24,7 +24,7 @@ returns : tie.Need-returns
 unfolding indexOf indexAfter endOf partOf restOf placeWithin placeOf motionIn
 returns c =
     let args = c .before .before .before .before .args in
-    c .motion-at .ensures ∙ placed (now (args .half)) (motionIn (args .t)) (c .before .place-of .result) (c .before .place-of .ensures)
+    c .motion-at .ensures ∙ placed malformed (now (args .half)) (motionIn (args .t)) (c .before .place-of .result) (c .before .place-of .ensures)
 
 pub motion-in-spec : {M : Type 1} → statement M
 motion-in-spec =

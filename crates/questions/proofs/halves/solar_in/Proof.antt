@@ -5,9 +5,9 @@ use borrow.Author.Needs.{needs}
 use denote.Ref.{now}
 use Rattle.bytes.specs.Bytes.{indexOf, indexAfter}
 use Rattle.words.specs.Numbers.{endOf, partOf, restOf}
-use Rattle.questions.specs.Place.{placeWithin, placeOf}
-use Rattle.questions.specs.Question.{solarIn}
-use Rattle.questions.proofs.Among.{placed}
+use Rattle.words.specs.Place.{placeWithin, placeOf}
+use Rattle.questions.specs.Question.{malformed, solarIn}
+use Rattle.words.proofs.Chosen.{placed}
 use Rattle.questions.proofs.halves.solar_in.Statement.{statement}
 use Rattle.questions.proofs.halves.solar_in.Tie as tie
 
@@ -24,7 +24,7 @@ returns : tie.Need-returns
 unfolding indexOf indexAfter endOf partOf restOf placeWithin placeOf solarIn
 returns c =
     let args = c .before .before .before .before .args in
-    c .solar-at .ensures ∙ placed (now (args .half)) (solarIn (args .t)) (c .before .place-of .result) (c .before .place-of .ensures)
+    c .solar-at .ensures ∙ placed malformed (now (args .half)) (solarIn (args .t)) (c .before .place-of .result) (c .before .place-of .ensures)
 
 pub solar-in-spec : {M : Type 1} → statement M
 solar-in-spec =

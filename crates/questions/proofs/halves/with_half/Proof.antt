@@ -5,9 +5,9 @@ use borrow.Author.Needs.{needs}
 use denote.Ref.{now}
 use Rattle.bytes.specs.Bytes.{indexOf, indexAfter}
 use Rattle.words.specs.Numbers.{endOf, partOf, restOf}
-use Rattle.questions.specs.Place.{placeWithin, placeOf}
-use Rattle.questions.specs.Question.{withHalf}
-use Rattle.questions.proofs.Among.{placed}
+use Rattle.words.specs.Place.{placeWithin, placeOf}
+use Rattle.questions.specs.Question.{malformed, withHalf}
+use Rattle.words.proofs.Chosen.{placed}
 use Rattle.questions.proofs.halves.with_half.Statement.{statement}
 use Rattle.questions.proofs.halves.with_half.Tie as tie
 
@@ -24,7 +24,7 @@ returns : tie.Need-returns
 unfolding indexOf indexAfter endOf partOf restOf placeWithin placeOf withHalf
 returns c =
     let args = c .before .before .before .before .before .args in
-    c .half-at .ensures ∙ placed (now (args .word)) (withHalf (now (args .half)) (args .t)) (c .before .place-of .result) (c .before .place-of .ensures)
+    c .half-at .ensures ∙ placed malformed (now (args .word)) (withHalf (now (args .half)) (args .t)) (c .before .place-of .result) (c .before .place-of .ensures)
 
 pub with-half-spec : {M : Type 1} → statement M
 with-half-spec =

@@ -1,4 +1,4 @@
--- `questions::place::place_of` meets its contract. The loop's invariant: the word's place is as many further than k as it is
+-- `words::place_of` meets its contract. The loop's invariant: the word's place is as many further than k as it is
 -- in what is left of the list. The measure is what is left. Assumes nothing.
 use Prim.Native.Nat.{suc, _+_, _-_, _≤_}
 use mathlib.Core.Path.{_≡_, ap}
@@ -8,13 +8,13 @@ use native.Mathlib.Omega.{arith}
 use borrow.Author.Needs.{needs}
 use lib.ListN.{length}
 use denote.Ref.{now}
 use Rattle.words.specs.Numbers.{partOf, restOf}
-use Rattle.questions.specs.Text.{same}
-use Rattle.questions.specs.Place.{placeWithin, placeOf}
-use Rattle.questions.proofs.Same.{told-same}
-use Rattle.questions.proofs.Within.{rest-shorter, at-end, is-here, is-later}
-use Rattle.questions.proofs.place.place_of.Statement.{statement}
-use Rattle.questions.proofs.place.place_of.Tie as tie
+use Rattle.words.specs.Text.{same}
+use Rattle.words.specs.Place.{placeWithin, placeOf}
+use Rattle.words.proofs.Same.{told-same}
+use Rattle.words.proofs.Within.{rest-shorter, at-end, is-here, is-later}
+use Rattle.words.proofs.place_of.Statement.{statement}
+use Rattle.words.proofs.place_of.Tie as tie
 
 abbrev Inv-loop : tie.InvT-loop
 Inv-loop word list left₀ k₀ left k = (length left + k ≤ length list) × (placeOf word list ≡ k + placeWithin (length list - k) word left)

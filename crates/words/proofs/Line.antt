@@ -6,7 +6,7 @@ use native.Mathlib.Omega.{arith}
 use lib.ListN.{length, take, drop, length-drop}
 use lib.Seq.{take-length}
 use Rattle.bytes.specs.Bytes.{indexOf, slice}
-use Rattle.questions.specs.Question.{wordOf, afterWord}
+use Rattle.words.specs.Line.{wordOf, afterWord}
 
 -- where the word ends, as a search from the line's start answers it
 pub end-is : (line : List ℕ) → 0 + indexOf 32 (slice 0 (length line) line) ≡ indexOf 32 line

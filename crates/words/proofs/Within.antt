@@ -6,9 +6,9 @@ use mathlib.Core.Bool.{true, false}
 use native.Mathlib.Omega.{arith}
 use borrow.Author.Tests.{eq-eqb, ne-eqb}
 use lib.ListN.{length, length-drop}
 use Rattle.words.specs.Numbers.{endOf, partOf, restOf}
-use Rattle.questions.specs.Text.{same}
-use Rattle.questions.specs.Place.{placeWithin}
+use Rattle.words.specs.Text.{same}
+use Rattle.words.specs.Place.{placeWithin}
 
 -- each part takes its blank with it
 pub rest-shorter : (s : List ℕ) → 0 < length s → length (restOf s) < length s
