@@ -1,5 +1,5 @@
 -- Laws of a word's place in a list that is a text. Assumes nothing.
-use Prim.Native.Nat.{ℕ, zero, suc, _<_}
+use Prim.Native.Nat.{ℕ, zero, suc, _≤_, _<_}
 use mathlib.Core.Path.{_≡_, refl}
 use mathlib.Core.List.{List}
 use mathlib.Core.Bool.{true, false}
@@ -14,6 +14,10 @@ use Rattle.words.specs.Place.{placeWithin}
 pub rest-shorter : (s : List ℕ) → 0 < length s → length (restOf s) < length s
 unfolding restOf endOf
 rest-shorter s h = simp length-drop (omega arith)
+
+pub rest-no-longer : (s : List ℕ) → length (restOf s) ≤ length s
+unfolding restOf endOf
+rest-no-longer s = simp length-drop (omega arith)
 
 module _ (word s : List ℕ) where
   pub at-end : (n : ℕ) → length s ≡ 0 → placeWithin n word s ≡ 0

@@ -1,0 +1,4 @@
+pub mod MarkLaws
+pub mod YearLaws
+pub mod FoundLaws
+pub mod Unique

@@ -1,0 +1,3 @@
+pub mod MarkWords
+pub mod SheetText
+pub mod Reading
