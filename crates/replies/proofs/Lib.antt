@@ -1,3 +1,4 @@
 pub mod ReplyLaws
-pub mod Unique
 pub mod Room
+pub mod AnswerLaws
+pub mod Unique

@@ -1,1 +1,2 @@
 pub mod ReplyText
+pub mod AnswerText

@@ -1,10 +1,12 @@
-// The line of text that is written for each reply.
+// The line of text that is written for each reply, and for each line that asks.
 use line_texts::put_moment;
 use line_texts::put_month;
 use line_texts::put_signed;
 use measure::Answer;
 use measure::SHORT_ROW;
+use questions::LONGEST;
 use questions::Reply;
+use sheet_texts::SHEET_ROOM;
 use texts::fill;
 ghost use mathlib.Core.Path.{_≡_};
 ghost use mathlib.Core.List.{[], _∷_};
@@ -12,14 +14,42 @@ ghost use Prim.Native.Nat.{_≤_};
 ghost use lib.ListN.{length};
 ghost use Rattle.measure.specs.Reply.{answerSaid};
 ghost use Rattle.measure.specs.Row.{over, rowAfter};
+ghost use Rattle.measure.specs.Epoch.{shoushi};
 ghost use Rattle.questions.specs.Told.{nothing, toldIn};
 ghost use Rattle.line_texts.specs.LineText.{numbersText, lineRoom};
 ghost use Rattle.replies.specs.ReplyText.{constantsText, helpText, replyText, roomOf, replyReply};
+ghost use Rattle.replies.specs.AnswerText.{asksSheet, answerText, answerReply};
 
 // Room for one line, and for the records of all years.
 pub const LINE_ROOM: usize = 16_384;
 
 pub const YEARS_ROOM: usize = 2_097_152;
+
+// The line that answers a line, from the row's start; how many bytes it has. A row without the room that it asks for is refused with 4.
+pub fn write_answer(line: &[u8], row: &mut [u8]) -> Answer
+    ensures { λ r. ⌜ answerSaid r ≡ answerReply shoushi (now (line .entry)) (length (now (row .entry))) ⌝ }
+    ensures { λ _. ⌜ now (row .exit) ≡ rowAfter (answerReply shoushi (now (line .entry)) (length (now (row .entry)))) (answerText shoushi (now (line .entry))) (now (row .entry)) ⌝ }
+{
+    if asks_sheet(line) {
+        if row.len() < SHEET_ROOM {
+            return Answer::Refused(SHORT_ROW);
+        }
+        return Answer::Number(
+            sheet_texts::put_sheet(words::after_word(line), row) as u64,
+        );
+    }
+    write_reply(questions::ask(line), row)
+}
+
+// Whether a line asks of a torn sheet.
+fn asks_sheet(line: &[u8]) -> bool
+    ensures { λ r. ⌜ r ≡ asksSheet (now (line .entry)) ⌝ }
+{
+    if line.len() > LONGEST {
+        return false;
+    }
+    check::same(words::word_in(line), b"sheet")
+}
 
 // The room that a reply asks for.
 pub fn room_for(r: Reply) -> usize
@@ -141,6 +171,7 @@ fn put_help(row: &mut [u8]) -> usize
           solar-at fast|slow T, lunar-at quick|tardy T, motion-at quick|tardy K, \
           name D, hour R, extra R, vanishing R, \
           head N, day D, back N P M, year N, years N C, \
+          sheet [name P N|stem P S|branch P B|length P D|leap P].., \
           help\n",
         &[],
         row,
