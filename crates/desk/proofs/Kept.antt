@@ -11,8 +11,7 @@ use Rattle.measure.specs.Choice.{if_then_else_, _=?_}
 use Rattle.frames.specs.LineEnds.{lineEnd}
 use Rattle.measure.specs.Row.{over}
 use Rattle.measure.specs.Epoch.{shoushi}
-use Rattle.questions.specs.Question.{replyTo}
-use Rattle.replies.specs.ReplyText.{replyText}
+use Rattle.replies.specs.AnswerText.{answerText}
 use Rattle.desk.specs.Input.{withByte, keptAfter, lastText}
 
 -- the first bytes of a row, written over it, leave it as it was
@@ -54,7 +53,7 @@ unfolding lastText
 no-line [] h = refl
 no-line (b ∷ bs) h = absurd (omega arith)
 
-pub a-line : (line : List ℕ) → (length line ≡ 0 → ⊥) → lastText line ≡ replyText (replyTo shoushi line)
+pub a-line : (line : List ℕ) → (length line ≡ 0 → ⊥) → lastText line ≡ answerText shoushi line
 unfolding lastText
 a-line [] h = absurd (h refl)
 a-line (b ∷ bs) h = refl

@@ -9,8 +9,7 @@ use lib.ListN.{length, take}
 use Rattle.measure.specs.Choice.{if_then_else_, _<?_, _=?_}
 use Rattle.measure.specs.Epoch.{shoushi}
 use Rattle.frames.specs.LineEnds.{lineEnd}
-use Rattle.questions.specs.Question.{replyTo}
-use Rattle.replies.specs.ReplyText.{replyText}
+use Rattle.replies.specs.AnswerText.{answerText}
 use Rattle.desk.specs.declared.Turn.{Turn}
 use Rattle.desk.specs.declared.Turn.the-variants.{Begun, Ended, CutShort}
 use Rattle.desk.specs.declared.Asked.{Asked}
@@ -32,7 +31,7 @@ keptAfter room line (b ∷ bs) = keptAfter room (withByte room line b) bs
 -- what is written where the input ends: the reply to the line that was begun, if one was
 unfoldable pub lastText : List ℕ → List ℕ
 lastText [] = []
-lastText (b ∷ bs) = replyText (replyTo shoushi (b ∷ bs))
+lastText (b ∷ bs) = answerText shoushi (b ∷ bs)
 
 -- how a turn ends: the input has ended exactly where nothing was read; else the line's first bytes are what is kept of it, unless a
 -- write failed

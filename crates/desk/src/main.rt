@@ -13,9 +13,9 @@ ghost use lib.ListN.{length, take};
 ghost use Rattle.measure.specs.Row.{over};
 ghost use Rattle.measure.specs.Epoch.{shoushi};
 ghost use Rattle.reads.specs.Given.{Within};
-ghost use Rattle.questions.specs.Question.{longest, replyTo};
+ghost use Rattle.questions.specs.Question.{longest};
 ghost use Rattle.list_texts.specs.ListText.{yearsRoom};
-ghost use Rattle.replies.specs.ReplyText.{replyText};
+ghost use Rattle.replies.specs.AnswerText.{answerText};
 ghost use Rattle.desk.specs.Input.{withMore, lastText, Left, withBlank, withArgument, Begins, Told};
 
 // How a turn ends: with so many bytes kept of a line that was begun, at the input's end, or by a failed write.
@@ -29,10 +29,10 @@ enum Turn {
 fn answered(line: &[u8], buf: &mut [u8]) -> usize
     requires { ⌜ yearsRoom ≤ length (now buf) ⌝ }
     ensures { λ r. ⌜ r ≤ length (now (buf .entry)) ⌝ }
-    ensures { λ r. ⌜ r ≡ length (replyText (replyTo shoushi (now (line .entry)))) ⌝ }
-    ensures { λ _. ⌜ now (buf .exit) ≡ over (replyText (replyTo shoushi (now (line .entry)))) (now (buf .entry)) ⌝ }
+    ensures { λ r. ⌜ r ≡ length (answerText shoushi (now (line .entry))) ⌝ }
+    ensures { λ _. ⌜ now (buf .exit) ≡ over (answerText shoushi (now (line .entry))) (now (buf .entry)) ⌝ }
 {
-    let Answer::Number(n) = replies::write_reply(questions::ask(line), buf) else {
+    let Answer::Number(n) = replies::write_answer(line, buf) else {
         return 0;
     };
     n as usize
