@@ -3,7 +3,6 @@
 use crate::calendar::*;
 
 pub const NEXT_HEAD: (Number, Number) = (12_368, 365_269);
-pub const LENGTHS: [Number; 2] = [29, 30];
 pub const LIST_LENGTHS: [usize; 2] = [NUMBERS.len(), LONGEST_LIST];
 
 /// Returns nothing when a fact holds and its description when it fails.
