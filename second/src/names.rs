@@ -6,12 +6,9 @@
 
 use crate::calendar::*;
 
-/// What is legible of the names.
-const LEGIBLE: [(&str, fn(Number) -> Number); 3] = [
-    ("whole names", name),
-    ("stems alone", stem),
-    ("branches alone", branch),
-];
+/// What may be legible of a first day's name.
+const LEGIBLE: [(&str, fn(Number) -> Number); 3] =
+    [("names", name), ("stems", stem), ("branches", branch)];
 
 /// The parts that one is cut into. The sets of one size, and the runs of one size, of 12 and of 13 places are so many
 /// that the share of each is a whole number of parts.
@@ -58,8 +55,8 @@ struct Figures {
     anywhere: Vec<Sum>,
     neighbours: Vec<Sum>,
     years: Vec<Year>,
-    /// the least distance of two years of which one is never told from the other
-    apart: usize,
+    /// the least distance of two years that all names of a year leave
+    apart: Option<usize>,
 }
 
 /// Returns a quotient with so many decimals.
@@ -93,14 +90,13 @@ fn left_by_set(names: &[Vec<Number>], own: &[Number]) -> Vec<u64> {
     left
 }
 
-/// Returns the least distance from a year to another that has all its names, or the count of years if none has.
-fn nearest_same(names: &[Vec<Number>], year: usize) -> usize {
-    let whole = (1 << names[year].len()) - 1;
-    (0..names.len())
-        .filter(|other| *other != year && same_places(&names[year], &names[*other]) == whole)
-        .map(|other| other.abs_diff(year))
-        .min()
-        .unwrap_or(names.len())
+/// Returns the least distance of two years of those that have all names of a year, or none where it alone has them.
+fn nearest_two(names: &[Vec<Number>], own: &[Number]) -> Option<usize> {
+    let whole = (1 << own.len()) - 1;
+    let alike: Vec<usize> = (0..names.len())
+        .filter(|other| same_places(own, &names[*other]) == whole)
+        .collect();
+    alike.windows(2).map(|two| two[1] - two[0]).min()
 }
 
 impl Figures {
@@ -110,11 +106,10 @@ impl Figures {
             anywhere: vec![Sum::default(); LONGEST_LIST + 1],
             neighbours: vec![Sum::default(); LONGEST_LIST + 1],
             years: Vec::new(),
-            apart: names.len(),
+            apart: names.iter().filter_map(|own| nearest_two(names, own)).min(),
         };
         for (year, own) in names.iter().enumerate() {
             figures.count(year, own.len(), &left_by_set(names, own));
-            figures.apart = figures.apart.min(nearest_same(names, year));
         }
         figures
     }
@@ -142,16 +137,23 @@ impl Figures {
     }
 
     /// Returns the text of what so many names leave, a line for each number of them.
-    fn table(&self) -> String {
-        let mut text = String::from(
-            "          at any places         at neighbouring places\n\
-             names     alone  years left     alone  years left\n",
+    fn table(&self, legible: &str) -> String {
+        let years = self.years.len() as u64;
+        let mut text = format!(
+            "{legible}, counted over {years} years\n{:>27}{:>22}\n{:>5}{:>10}{:>12}{:>10}{:>12}\n",
+            "any places",
+            "neighbouring places",
+            "count",
+            "alone",
+            "years left",
+            "alone",
+            "years left"
         );
         for size in 1..=LONGEST_LIST {
             let (anywhere, neighbours) = (&self.anywhere[size], &self.neighbours[size]);
             text += &format!("{size:>5}  {}  {}", anywhere.text(), neighbours.text());
-            if anywhere.years < self.years.len() as u64 {
-                text += &format!("  of the {} years with so many", anywhere.years);
+            if anywhere.years < years {
+                text += &format!("  ({} years have so many)", anywhere.years);
             }
             text.push('\n');
         }
@@ -159,7 +161,7 @@ impl Figures {
     }
 
     /// Returns the text of how many names it takes, and of the years for which all are too few.
-    fn summary(&self) -> String {
+    fn summary(&self, legible: &str) -> String {
         let (one, more): (Vec<&Year>, Vec<&Year>) = self.years.iter().partition(|y| y.left == 1);
         let average = |years: &[&Year]| {
             let taken = years.iter().map(|year| year.taken).sum();
@@ -170,9 +172,9 @@ impl Figures {
         let most = one.iter().max_by_key(by_taken).expect("some are told");
         let numbers: Vec<String> = more.iter().map(|year| year.year.to_string()).collect();
         format!(
-            "{} years are singled out by all together: after {} in random order on average, from {} \
+            "{} years are singled out by all their {legible}: after {} in random order on average, from {} \
              (year {}) to {} (year {})\n\
-             {} years are not: all together leave 2 to {} years, the nearest two {} apart\n\
+             {} years are not: all their {legible} leave 2 to {} years, the nearest two {} apart\n\
              over all years, until no further one tells more: {} on average\n\
              not singled out: {}\n",
             one.len(),
@@ -183,7 +185,7 @@ impl Figures {
             most.year,
             more.len(),
             more.iter().map(|year| year.left).max().unwrap_or(1),
-            self.apart,
+            self.apart.unwrap_or(0),
             average(&self.years.iter().collect::<Vec<&Year>>()),
             numbers.join(" ")
         )
@@ -197,7 +199,7 @@ pub fn text(months: &Months) -> String {
         let names = |list: &Vec<Record>| list.iter().map(|month| part(month.first_day)).collect();
         let names: Vec<Vec<Number>> = months.lists().iter().map(names).collect();
         let figures = Figures::counted(&names);
-        text += &format!("{legible}\n{}{}", figures.table(), figures.summary());
+        text += &(figures.table(legible) + &figures.summary(legible));
     }
     text
 }

@@ -132,3 +132,40 @@ fn an_unknown_usage_gives_the_help_text_and_2() {
 fn the_facts_hold() {
     assert_eq!(output(&["facts"], b"").lines().count(), 1);
 }
+
+/// Returns the numbers of a text, commas between their digits left out.
+fn numbers(text: &str) -> Vec<String> {
+    text.replace(',', "")
+        .split(|each: char| !each.is_ascii_digit() && each != '.')
+        .map(|number| number.trim_matches('.').to_string())
+        .filter(|number| !number.is_empty())
+        .collect()
+}
+
+#[test]
+fn the_page_on_sheets_has_the_figures_of_the_names() {
+    let path = format!("{}/../docs/SHEETS.md", env!("CARGO_MANIFEST_DIR"));
+    let page = std::fs::read_to_string(&path).expect("the page can be read");
+    let section = page.split("\n## How many names it takes\n").nth(1);
+    let section = section.expect("the page has the section");
+    let section = section.split("\n## ").next().expect("a text has a start");
+    let told = output(&["names"], b"");
+    // a block holds lines of the command, in order
+    let mut quoted = 0;
+    for block in section.split("```").skip(1).step_by(2) {
+        let mut told = told.lines();
+        for line in block.lines().skip(2) {
+            assert!(told.any(|each| each == line), "{line}");
+            quoted += 1;
+        }
+    }
+    assert_eq!(quoted, 22);
+    // a figure of the prose is one of the commands
+    let known = numbers(&(told + &output(&["facts"], b"")));
+    for prose in section.split("```").step_by(2) {
+        for number in numbers(prose) {
+            let known = known.contains(&number) || ["29", "30", "100"].contains(&number.as_str());
+            assert!(known, "{number}");
+        }
+    }
+}

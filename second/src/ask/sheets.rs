@@ -270,10 +270,16 @@ fn long_lines() -> Vec<String> {
         lines.push(filled("sheet", "35", length - 1) + " ");
         lines.push(filled("sheet", "35", length - " leap 13".len()) + " leap 13");
     }
-    for mark in GOOD.iter().chain(&["leap 0"]) {
+    for mark in GOOD.iter().chain(&["leap 9"]) {
         let most = (LONGEST_LINE - "sheet".len()) / (mark.len() + 1);
-        for times in most - 1..=most + 1 {
-            lines.push(format!("sheet{}", format!(" {mark}").repeat(times)));
+        for times in [most - 1, most] {
+            let marks = format!(" {mark}").repeat(times);
+            lines.push(format!("sheet{marks}"));
+            // the first or the last of so many decides
+            for deciding in ["leap 8", "leap 13"] {
+                lines.push(format!("sheet {deciding}{marks}"));
+                lines.push(format!("sheet{marks} {deciding}"));
+            }
         }
     }
     lines
