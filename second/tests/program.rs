@@ -160,8 +160,10 @@ fn the_page_on_sheets_has_the_figures_of_the_names() {
         }
     }
     assert_eq!(quoted, 22);
-    // a figure of the prose is one of the commands
-    let known = numbers(&(told + &output(&["facts"], b"")));
+    // a figure of the prose is one of the commands, their list of years left out
+    let figures = told.lines().filter(|line| !line.starts_with("not "));
+    let known: Vec<String> = figures.flat_map(numbers).collect();
+    let known = [known, numbers(&output(&["facts"], b""))].concat();
     for prose in section.split("```").step_by(2) {
         for number in numbers(prose) {
             let known = known.contains(&number) || ["29", "30", "100"].contains(&number.as_str());
