@@ -6,9 +6,10 @@
 
 use crate::calendar::*;
 
-/// What may be legible of a first day's name.
-const LEGIBLE: [(&str, fn(Number) -> Number); 3] =
-    [("names", name), ("stems", stem), ("branches", branch)];
+/// What of the name of a running day is legible.
+type Part = fn(Number) -> Number;
+
+const LEGIBLE: [(&str, Part); 3] = [("names", name), ("stems", stem), ("branches", branch)];
 
 /// The parts that one is cut into. The sets of one size, and the runs of one size, of 12 and of 13 places are so many
 /// that the share of each is a whole number of parts.

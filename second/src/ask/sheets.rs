@@ -81,7 +81,7 @@ fn thirteenth(lists: &[Vec<Record>], year: usize) -> Vec<Mark> {
     month.map_or(Vec::new(), |month| marks_of(place, month))
 }
 
-/// Returns the names of the thirteen months from each head on, of which years with twelve have the last not.
+/// Returns the names of the thirteen months from every third head on, the last of which a year with twelve has not.
 fn thirteenth_names(lists: &[Vec<Record>]) -> Vec<Vec<Mark>> {
     let name = |mark: &Mark| matches!(mark.told, Told::Name(_));
     let sheet = |year: usize| {
@@ -127,7 +127,8 @@ fn changed(list: &[Record]) -> Vec<Vec<Mark>> {
     let marks = whole(list);
     let mut sheets = Vec::new();
     for (at, mark) in marks.iter().enumerate() {
-        for beside in [*mark, wrong(*mark, 0), against(*mark, at as u64)] {
+        let besides = [*mark, wrong(*mark, 0), against(*mark, 0), against(*mark, 1)];
+        for beside in besides {
             let mut sheet = marks.clone();
             sheet[at] = beside;
             sheets.push(sheet.clone());
