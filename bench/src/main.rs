@@ -2,7 +2,9 @@
 
 mod plain;
 
+use plain::{Mark, Told};
 use std::hint::black_box;
+use std::io::Write;
 use std::time::Instant;
 
 /// The viewer's reply about a day.
@@ -25,8 +27,21 @@ struct Timed {
     number: u64,
 }
 
+/// How many bytes of a reply were written, or a refusal's number in `refused`.
+#[repr(C)]
+struct Written {
+    refused: u64,
+    bytes: u64,
+}
+
 extern "C" {
     fn lengadriu_day(d: u64) -> Day;
+    fn lengadriu_ask(
+        line: *const u8,
+        line_length: usize,
+        row: *mut u8,
+        row_length: usize,
+    ) -> Written;
     fn timing_true_moon(l: u64, q: u64) -> Timed;
     fn timing_run(row: *mut u64, length: usize, n: u64, count: u64) -> Timed;
 }
@@ -59,6 +74,16 @@ fn report(what: &str, times: (f64, f64), bound: f64) -> bool {
         times.0, times.1
     );
     ratio <= bound
+}
+
+/// As `report`, for a whole question, in microseconds and with the most that the proved side may take.
+fn report_question(what: &str, times: (f64, f64), bound: f64, most: f64) -> bool {
+    let (ours, theirs) = (times.0 / 1000.0, times.1 / 1000.0);
+    let ratio = ours / theirs;
+    println!(
+        "{what}: proved {ours:.1} µs (at most {most}), plain Rust {theirs:.1} µs, ratio {ratio:.2} (at most {bound})"
+    );
+    ratio <= bound && ours <= most
 }
 
 /// Lunations or days in no order.
@@ -159,6 +184,87 @@ fn days() -> bool {
     )
 }
 
+/// Every mark of a year's list.
+fn whole_sheet(year: u64) -> Vec<Mark> {
+    let mut list = [plain::Record::default(); 13];
+    let count = plain::run(year, 1, &mut list);
+    let mut marks = Vec::new();
+    for (place, month) in list[..count].iter().enumerate() {
+        let mut mark = |told| marks.push(Mark { place, told });
+        mark(Told::Name(month.first % 60));
+        mark(Told::Stem(month.first % 10));
+        mark(Told::Branch(month.first % 12));
+        mark(Told::Length(month.length));
+        if month.leap == 1 {
+            mark(Told::Leap);
+        }
+    }
+    marks
+}
+
+/// A sheet as the desk reads it.
+fn sheet_line(marks: &[Mark]) -> String {
+    let mut line = String::from("sheet");
+    for Mark { place, told } in marks {
+        line += &match told {
+            Told::Name(name) => format!(" name {place} {name}"),
+            Told::Stem(stem) => format!(" stem {place} {stem}"),
+            Told::Branch(branch) => format!(" branch {place} {branch}"),
+            Told::Length(length) => format!(" length {place} {length}"),
+            Told::Leap => format!(" leap {place}"),
+        };
+    }
+    line
+}
+
+/// The reply's text, written anew.
+fn write_years(years: &[u64], text: &mut Vec<u8>) {
+    text.clear();
+    for year in years {
+        write!(text, "{year} ").expect("a row of bytes takes all");
+    }
+    if text.pop().is_none() {
+        text.extend_from_slice(b"none");
+    }
+    text.push(b'\n');
+}
+
+/// From the line to the reply's text on the proved side; plain Rust has its marks read already.
+fn sheet(what: &str, marks: &[Mark]) -> bool {
+    let line = sheet_line(marks);
+    let mut row = vec![0u8; 2 << 20];
+    let (mut years, mut text) = ([0u64; 1_000], Vec::new());
+    let sum = |text: &[u8]| {
+        text.iter()
+            .fold(0u64, |sum, x| sum.wrapping_mul(31).wrapping_add(*x as u64))
+    };
+    let ours = || {
+        let written =
+            unsafe { lengadriu_ask(line.as_ptr(), line.len(), row.as_mut_ptr(), row.len()) };
+        assert_eq!(written.refused, 0);
+        sum(&row[..written.bytes as usize])
+    };
+    let theirs = || {
+        let count = plain::years(marks, &mut years);
+        write_years(&years[..count], &mut text);
+        sum(&text)
+    };
+    report_question(what, race(200, 1, ours, theirs), 1.2, 500.0)
+}
+
+/// All marks of a year with 13 months, three of them, and none.
+fn sheets() -> bool {
+    let whole = whole_sheet(0);
+    assert_eq!(whole.len(), 4 * 13 + 1);
+    let three: Vec<Mark> = whole.iter().step_by(20).copied().collect();
+    let good = [
+        sheet("a whole sheet over all years", &whole),
+        sheet("a sheet of three marks over all years", &three),
+        sheet("a sheet without marks over all years", &[]),
+    ];
+    !good.contains(&false)
+}
+
 fn main() {
     println!(
         "{}, {} build, least of several rounds",
@@ -169,7 +275,7 @@ fn main() {
             "release"
         }
     );
-    let good = [true_moons(), days(), runs()];
+    let good = [true_moons(), days(), runs(), sheets()];
     if good.contains(&false) {
         std::process::exit(1);
     }

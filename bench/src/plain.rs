@@ -112,17 +112,43 @@ fn middle(n: u64, i: u64) -> u64 {
     (n * YEAR + SOLSTICE + i * 2 * TERM) / DAY
 }
 
+/// A lunation with its month's first day and the next month's, so that no true moon is worked out twice.
+#[derive(Clone, Copy)]
+struct Month {
+    l: u64,
+    day: u64,
+    end: u64,
+}
+
+impl Month {
+    fn of(l: u64) -> Month {
+        Month {
+            l,
+            day: first(l),
+            end: first(l + 1),
+        }
+    }
+
+    fn next(self) -> Month {
+        Month {
+            l: self.l + 1,
+            day: self.end,
+            end: first(self.l + 2),
+        }
+    }
+}
+
 /// The head of year n: the last month whose first day is not after the solstice's day.
-fn head(n: u64) -> u64 {
+fn head(n: u64) -> Month {
     let solstice = middle(n, 0);
-    let mut l = (n * YEAR + LEAP) / MONTH;
-    while first(l) > solstice {
-        l -= 1;
+    let mut head = Month::of((n * YEAR + LEAP) / MONTH);
+    while head.day > solstice {
+        head = Month::of(head.l - 1);
     }
-    while first(l + 1) <= solstice {
-        l += 1;
+    while head.end <= solstice {
+        head = head.next();
     }
-    l
+    head
 }
 
 #[derive(Clone, Copy, Default, PartialEq, Debug)]
@@ -134,23 +160,18 @@ pub struct Record {
 }
 
 /// Year n's list from its head on, and the next year's head.
-fn list_from(n: u64, head: u64, row: &mut [Record]) -> (usize, u64) {
+fn list_from(n: u64, head: Month, row: &mut [Record]) -> (usize, Month) {
     let next = middle(n + 1, 0);
-    let (mut l, mut day, mut count) = (head, first(head), 0);
-    loop {
-        let end = first(l + 1);
-        if day > middle(n, 0) && end > next && day <= next {
-            break;
-        }
+    let (mut month, mut count) = (head, 0);
+    while month.end <= next {
         row[count] = Record {
-            first: day,
-            length: end - day,
+            first: month.day,
+            length: month.end - month.day,
             number: 0,
             leap: 0,
         };
         count += 1;
-        day = end;
-        l += 1;
+        month = month.next();
     }
     let (mut term, mut rank) = (0, 0);
     for record in row[..count].iter_mut() {
@@ -162,7 +183,7 @@ fn list_from(n: u64, head: u64, row: &mut [Record]) -> (usize, u64) {
         record.number = (rank + 10) % 12 + 1;
         record.leap = (count == 13 && !held) as u64;
     }
-    (count, l)
+    (count, month)
 }
 
 /// The lists of so many years.
@@ -172,6 +193,50 @@ pub fn run(n: u64, years: u64, row: &mut [Record]) -> usize {
     for k in 0..years {
         let (count, next) = list_from(n + k, h, &mut row[used..]);
         used += count;
+        h = next;
+    }
+    used
+}
+
+/// What a mark tells of the month at its place.
+#[derive(Clone, Copy)]
+pub enum Told {
+    Name(u64),
+    Stem(u64),
+    Branch(u64),
+    Length(u64),
+    Leap,
+}
+
+#[derive(Clone, Copy)]
+pub struct Mark {
+    pub place: usize,
+    pub told: Told,
+}
+
+/// The years whose lists agree with every mark: each year is listed once, from the head that the year before it hands on.
+#[inline(never)]
+pub fn years(marks: &[Mark], row: &mut [u64]) -> usize {
+    let mut list = [Record::default(); 13];
+    let (mut used, mut h) = (0, head(0));
+    for n in 0..1_000 {
+        let (count, next) = list_from(n, h, &mut list);
+        let agrees = |mark: &Mark| {
+            mark.place < count && {
+                let month = &list[mark.place];
+                match mark.told {
+                    Told::Name(name) => month.first % 60 == name,
+                    Told::Stem(stem) => month.first % 10 == stem,
+                    Told::Branch(branch) => month.first % 12 == branch,
+                    Told::Length(length) => month.length == length,
+                    Told::Leap => month.leap == 1,
+                }
+            }
+        };
+        if marks.iter().all(agrees) {
+            row[used] = n;
+            used += 1;
+        }
         h = next;
     }
     used

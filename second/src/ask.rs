@@ -1,11 +1,14 @@
 //! Sets of questions for the desk and of lines for the line program, always the same ones, so that two
 //! programs' replies to a set can be compared byte for byte.
 
+mod sheets;
+
 use crate::calendar::*;
+use crate::desk::LONGEST_LINE;
 use std::io::{Result, Write};
 
 /// The names of the sets.
-pub const SETS: [&str; 10] = [
+pub const SETS: [&str; 11] = [
     "years",
     "remainders",
     "names",
@@ -15,6 +18,7 @@ pub const SETS: [&str; 10] = [
     "days",
     "back",
     "lists",
+    "sheets",
     "hex",
 ];
 
@@ -22,7 +26,7 @@ pub const SETS: [&str; 10] = [
 pub const DEFAULT_COUNT: u64 = 100_000;
 
 /// The words that damaged lines may ask with, each with parts that make a good line.
-pub const DAMAGED: [(&str, &[&str]); 24] = [
+pub const DAMAGED: [(&str, &[&str]); 25] = [
     ("solstice", &["7"]),
     ("term", &["7", "5"]),
     ("pentad", &["7", "5", "2"]),
@@ -47,6 +51,10 @@ pub const DAMAGED: [(&str, &[&str]); 24] = [
     ("back", &["7", "5", "2"]),
     ("year", &["7"]),
     ("years", &["7", "2"]),
+    (
+        "sheet",
+        &["name", "0", "35", "leap", "10", "length", "12", "30"],
+    ),
 ];
 
 /// The word whose reply is each program's own.
@@ -78,6 +86,7 @@ pub fn write(set: &str, count: u64, out: &mut impl Write) -> Result<bool> {
         "days" => days(out)?,
         "back" => back(count, out)?,
         "lists" => lists(out)?,
+        "sheets" => sheets::write(count, out)?,
         "hex" => hex(count, out)?,
         _ => return Ok(false),
     }
@@ -606,9 +615,8 @@ fn damaged_bytes(parts: &[&[u8]]) -> Vec<Vec<u8>> {
 fn damaged_lengths(parts: &[&[u8]]) -> Vec<Vec<u8>> {
     let good = joined(parts, b" ");
     let mut lines = Vec::new();
-    for length in [
-        21, 64, 128, 253, 254, 255, 256, 257, 300, 511, 512, 513, 4096,
-    ] {
+    let longest = LONGEST_LINE - 2..=LONGEST_LINE + 2;
+    for length in longest.chain([21, 64, 128, 255, 256, 257, 511, 512, 513, 4096]) {
         for filler in [b' ', b'0', b'7', b'x', 0, 0xFF] {
             let fill = vec![filler; length - good.len().min(length)];
             lines.push([good.as_slice(), fill.as_slice()].concat());

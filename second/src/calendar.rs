@@ -77,6 +77,7 @@ pub const CORRECTION_TIMES: Number = 8_200_000;
 pub const FIRST_DAY: Number = 35;
 pub const LAST_DAY: Number = 365_268;
 pub const LONGEST_LIST: usize = 13;
+pub const LENGTHS: [Number; 2] = [29, 30];
 pub const NUMBERS: [Number; 12] = [11, 12, 1, 2, 3, 4, 5, 6, 7, 8, 9, 10];
 
 // Hours, extra and vanishing days.
@@ -425,7 +426,7 @@ fn check_run(year: u64, count: u64) -> Result<(), u32> {
 }
 
 /// Returns nothing for a place below the length of its list and refusal 2 for another.
-fn check_place(place: u64, length: Number) -> Result<(), u32> {
+pub(crate) fn check_place(place: u64, length: Number) -> Result<(), u32> {
     if Number::from(place) < length {
         Ok(())
     } else {
@@ -641,6 +642,11 @@ impl Months {
             })
             .collect();
         numbered(year, &months)
+    }
+
+    /// Returns the lists of the admitted years.
+    pub fn lists(&self) -> &[Vec<Record>] {
+        &self.lists
     }
 
     /// Returns the lunation of the head of a year up to the one after the last admitted, with the

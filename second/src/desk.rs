@@ -2,12 +2,16 @@
 //! one reply a line.
 
 use crate::calendar::*;
+use crate::sheet::{self, Mark, Told};
 
-pub const LONGEST_LINE: usize = 255;
+pub const LONGEST_LINE: usize = 1023;
 pub const MOST_DIGITS: usize = 20;
 
+/// The reply where there is nothing to tell.
+const NONE: &str = "none";
+
 /// The questions, as `help` lists them.
-pub const QUESTIONS: [&str; 25] = [
+pub const QUESTIONS: [&str; 26] = [
     "constants",
     "solstice N",
     "term N I",
@@ -32,6 +36,7 @@ pub const QUESTIONS: [&str; 25] = [
     "back N P M",
     "year N",
     "years N C",
+    "sheet [name P N|stem P S|branch P B|length P D|leap P]..",
     "help",
 ];
 
@@ -90,6 +95,7 @@ fn answer(months: &Months, line: &[u8]) -> Result<String, u32> {
         [b"back", n, p, m] => months.back(number(n)?, number(p)?, number(m)?).map(plain),
         [b"year", n] => year_list(months, number(n)?),
         [b"years", n, c] => run_of_years(months, number(n)?, number(c)?),
+        [b"sheet", parts @ ..] => sheet::years(months, &marks(parts)?).map(years_left),
         _ => Err(REFUSED_LINE),
     }
 }
@@ -133,6 +139,25 @@ fn lunar_half(word: &[u8]) -> Result<LunarHalf, u32> {
     }
 }
 
+/// Returns the marks of a sheet, one after the other, or refusal 5.
+fn marks(mut parts: &[&[u8]]) -> Result<Vec<Mark>, u32> {
+    let mut marks = Vec::new();
+    while !parts.is_empty() {
+        let (place, told, rest) = match parts {
+            [b"name", p, n, rest @ ..] => (p, Told::Name(number(n)?), rest),
+            [b"stem", p, s, rest @ ..] => (p, Told::Stem(number(s)?), rest),
+            [b"branch", p, b, rest @ ..] => (p, Told::Branch(number(b)?), rest),
+            [b"length", p, d, rest @ ..] => (p, Told::Length(number(d)?), rest),
+            [b"leap", p, rest @ ..] => (p, Told::Leap, rest),
+            _ => return Err(REFUSED_LINE),
+        };
+        let place = number(place)?;
+        marks.push(Mark { place, told });
+        parts = rest;
+    }
+    Ok(marks)
+}
+
 // The texts of the replies.
 
 /// Returns a number's text, with `-` before a negative one.
@@ -165,7 +190,15 @@ fn names(count: Number) -> String {
 
 /// Returns the text of days to add, or of none.
 fn days_on(days: Option<Number>) -> String {
-    days.map_or("none".to_string(), plain)
+    days.map_or(NONE.to_string(), plain)
+}
+
+/// Returns the text of the years that a sheet leaves, or of none.
+fn years_left(years: Vec<Number>) -> String {
+    if years.is_empty() {
+        return NONE.to_string();
+    }
+    with_blanks(years.into_iter().map(plain))
 }
 
 /// Returns the text of all constants.

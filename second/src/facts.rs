@@ -1,10 +1,13 @@
 //! The facts that hold of all admitted months together, checked on the plain list of all of them.
 
 use crate::calendar::*;
+use crate::sheet;
 
 pub const NEXT_HEAD: (Number, Number) = (12_368, 365_269);
-pub const LENGTHS: [Number; 2] = [29, 30];
 pub const LIST_LENGTHS: [usize; 2] = [NUMBERS.len(), LONGEST_LIST];
+
+/// Every so manyth year's sheet is torn mark by mark.
+const TORN_PACE: usize = 37;
 
 /// Returns nothing when a fact holds and its description when it fails.
 fn fact(holds: bool, description: impl FnOnce() -> String) -> Result<(), String> {
@@ -13,15 +16,6 @@ fn fact(holds: bool, description: impl FnOnce() -> String) -> Result<(), String>
     } else {
         Err(description())
     }
-}
-
-/// Returns the list of a year.
-fn year_list(months: &Months, year: Number) -> Vec<Record> {
-    let mut row = [Record::default(); LONGEST_LIST];
-    let written = months
-        .year(year as u64, &mut row)
-        .expect("the year is admitted");
-    row[..written].to_vec()
 }
 
 /// Returns how many months of a year's list hold no middle term.
@@ -70,15 +64,53 @@ fn check_days(lists: &[Vec<Record>]) -> Result<(), String> {
     Ok(())
 }
 
+/// Returns how many years are dated by their whole sheets alone, when the sheet of each gives it, or the fact that fails.
+fn check_sheets(months: &Months) -> Result<usize, String> {
+    let mut alone = 0;
+    for (year, list) in (0..=LAST_YEAR).zip(months.lists()) {
+        let left = years_left(months, &sheet::whole(list));
+        fact(left.contains(&year), || {
+            format!("the whole sheet of year {year} does not give it")
+        })?;
+        alone += usize::from(left.len() == 1);
+    }
+    Ok(alone)
+}
+
+/// Returns nothing when a sheet without one of its marks leaves every year that it leaves, down to the sheet without
+/// marks, which leaves all, and the fact that fails otherwise.
+fn check_torn(months: &Months, year: usize) -> Result<(), String> {
+    let mut marks = sheet::whole(&months.lists()[year]);
+    while !marks.is_empty() {
+        let left = years_left(months, &marks);
+        for torn in 0..marks.len() {
+            let mut fewer = marks.clone();
+            let mark = fewer.remove(torn);
+            let left_by_fewer = years_left(months, &fewer);
+            fact(left.iter().all(|year| left_by_fewer.contains(year)), || {
+                format!("without {mark} a sheet of year {year} loses a year")
+            })?;
+        }
+        marks.pop();
+    }
+    let all = years_left(months, &marks).len();
+    fact(all == months.lists().len(), || {
+        format!("a sheet without marks leaves {all} years")
+    })
+}
+
+/// Returns the years that a sheet of admitted marks leaves.
+fn years_left(months: &Months, marks: &[sheet::Mark]) -> Vec<Number> {
+    sheet::years(months, marks).expect("the marks are admitted")
+}
+
 /// Returns a line that sums up all facts, or the first that fails.
 pub fn check(months: &Months) -> Result<String, String> {
-    let lists: Vec<Vec<Record>> = (0..=LAST_YEAR)
-        .map(|year| year_list(months, year))
-        .collect();
+    let lists = months.lists();
     for (year, list) in lists.iter().enumerate() {
         check_list(year as Number, list)?;
     }
-    check_days(&lists)?;
+    check_days(lists)?;
     let count = lists.iter().map(Vec::len).sum::<usize>();
     fact(count as Number == LAST_LUNATION + 1, || {
         format!("there are {count} months")
@@ -87,13 +119,17 @@ pub fn check(months: &Months) -> Result<String, String> {
     fact(next_head == NEXT_HEAD, || {
         format!("the head after the last year is {next_head:?}")
     })?;
+    let dated = check_sheets(months)?;
+    for year in (0..lists.len()).step_by(TORN_PACE) {
+        check_torn(months, year)?;
+    }
     let leap_years = lists
         .iter()
         .filter(|list| list.len() == LONGEST_LIST)
         .count();
     Ok(format!(
         "{count} months in {} years, {leap_years} of them with a leap month: days {FIRST_DAY} to \
-         {LAST_DAY} each once, next head lunation {} on day {}",
+         {LAST_DAY} each once, next head lunation {} on day {}; each year's whole sheet gives it, {dated} alone",
         lists.len(),
         next_head.0,
         next_head.1

@@ -7,3 +7,5 @@ pub mod desk;
 pub mod facts;
 pub mod input;
 pub mod lines;
+pub mod names;
+pub mod sheet;

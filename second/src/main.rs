@@ -1,7 +1,7 @@
 //! The command line of the second program.
 
 use second::calendar::Months;
-use second::{ask, desk, facts, input, lines};
+use second::{ask, desk, facts, input, lines, names};
 use std::io::{self, BufReader, BufWriter, Read, Write};
 use std::os::fd::OwnedFd;
 use std::os::unix::net::UnixStream;
@@ -12,6 +12,7 @@ second desk [WORDS..]     answer the question of the words, or one question a li
 second lines              the line program: a day of five hexadecimal digits a line of the input
 second ask SET [COUNT]    write a set of questions for the desk, COUNT of each random kind
 second facts              check what holds of all months together
+second names              count how many names of first days it takes to single a year out
 second failing COMMAND..  run a command on the input's bytes, and then on reads that fail
 ";
 
@@ -37,6 +38,7 @@ fn main() -> ExitCode {
             Err(_) => return usage(),
         },
         ["facts"] => return check_facts(),
+        ["names"] => write_names(),
         ["failing", command, arguments @ ..] => run_failing(command, arguments),
         _ => return usage(),
     };
@@ -80,6 +82,12 @@ fn write_set(set: &str, count: u64) -> io::Result<bool> {
     let known = ask::write(set, count, &mut output)?;
     output.flush()?;
     Ok(known)
+}
+
+/// Returns true, having written how many names it takes to single a year out.
+fn write_names() -> io::Result<bool> {
+    io::stdout().write_all(names::text(&Months::listed()).as_bytes())?;
+    Ok(true)
 }
 
 /// Returns true, having run a command whose input fails after the bytes of the standard input: no end of it is ever seen.

@@ -79,12 +79,14 @@ fn help_is_one_line_with_every_question() {
     let help = reply(b"help");
     assert!(!help.contains('\n'));
     assert!(help.contains("solar-at fast|slow T"));
-    assert_eq!(help.split(", ").count(), 25);
+    assert!(help
+        .ends_with(", years N C, sheet [name P N|stem P S|branch P B|length P D|leap P].., help"));
+    assert_eq!(help.split(", ").count(), 26);
 }
 
 #[test]
 fn bad_lines_are_refused_with_5() {
-    let overlong = [b"name ".as_slice(), &[b'0'; 251]].concat();
+    let overlong = [b"sheet".as_slice(), &b" name 0 35".repeat(102)].concat();
     let bad: [&[u8]; 34] = [
         b"",
         b" ",
@@ -150,4 +152,155 @@ fn refusals_come_in_order() {
         "refused 1"
     );
     assert_eq!(reply(b"years 1 18446744073709551615"), "refused 1");
+}
+
+#[test]
+fn a_sheet_gives_the_years_that_agree_with_every_mark() {
+    let all: Vec<String> = (0..1000).map(|year| year.to_string()).collect();
+    assert_eq!(reply(b"sheet"), all.join(" "));
+    assert_eq!(reply(b"sheet name 0 35 length 0 29 leap 10"), "0");
+    assert_eq!(reply(b"sheet leap 10 length 0 29 name 0 35"), "0");
+    assert_eq!(
+        reply(b"sheet stem 0 5 branch 0 11"),
+        reply(b"sheet name 0 35")
+    );
+    assert_eq!(reply(b"sheet leap 10 leap 10"), reply(b"sheet leap 10"));
+    assert!(reply(b"sheet name 1 4").starts_with("0 "));
+    for none in [
+        "sheet name 0 35 name 0 36",
+        "sheet name 0 35 stem 0 6",
+        "sheet name 0 35 branch 0 0",
+        "sheet stem 0 0 branch 0 1",
+        "sheet length 3 29 length 3 30",
+        "sheet leap 10 leap 11",
+    ] {
+        assert_eq!(reply(none.as_bytes()), "none", "{none}");
+    }
+}
+
+#[test]
+fn a_single_mark_gives_the_years_whose_list_has_it() {
+    let months = Months::listed();
+    let lists: Vec<Vec<Vec<u64>>> = (0..1000)
+        .map(|year| desk::reply(&months, format!("year {year}").as_bytes()))
+        .map(|list| {
+            let records = list.split(' ').map(|record| record.split(':'));
+            records
+                .map(|record| record.map(|number| number.parse().unwrap()).collect())
+                .collect()
+        })
+        .collect();
+    let told = |mark: String, agrees: &dyn Fn(&Vec<Vec<u64>>) -> bool| {
+        let years = (0..1000).filter(|year| agrees(&lists[*year]));
+        let years: Vec<String> = years.map(|year| year.to_string()).collect();
+        let line = format!("sheet {mark}");
+        assert!(!years.is_empty(), "{line}");
+        assert_eq!(
+            desk::reply(&months, line.as_bytes()),
+            years.join(" "),
+            "{line}"
+        );
+    };
+    let at = |list: &Vec<Vec<u64>>, place: usize, field: usize| list.get(place).map(|r| r[field]);
+    for place in 0..13 {
+        let day = |list: &Vec<Vec<u64>>| at(list, place, 0);
+        for (word, round) in [("name", 60), ("stem", 10), ("branch", 12)] {
+            for value in 0..round {
+                let same = |list: &Vec<Vec<u64>>| day(list).map(|day| day % round) == Some(value);
+                told(format!("{word} {place} {value}"), &same);
+            }
+        }
+        for length in [29, 30] {
+            let same = |list: &Vec<Vec<u64>>| at(list, place, 1) == Some(length);
+            told(format!("length {place} {length}"), &same);
+        }
+    }
+    for place in 1..13 {
+        told(format!("leap {place}"), &|list| {
+            at(list, place, 3) == Some(1)
+        });
+    }
+    assert_eq!(reply(b"sheet leap 0"), "none");
+}
+
+#[test]
+fn a_mark_that_no_month_bears_is_refused_with_2() {
+    for mark in [
+        "name 0 60",
+        "stem 0 10",
+        "branch 0 12",
+        "length 0 28",
+        "length 0 31",
+        "length 0 0",
+        "name 13 0",
+        "stem 13 0",
+        "branch 13 0",
+        "length 13 29",
+        "leap 13",
+        "leap 18446744073709551615",
+        "name 0 18446744073709551615",
+    ] {
+        for line in [
+            format!("sheet {mark}"),
+            format!("sheet {mark} name 0 35"),
+            format!("sheet name 0 35 {mark} leap 10"),
+            format!("sheet name 0 35 name 0 36 {mark}"),
+        ] {
+            assert_eq!(reply(line.as_bytes()), "refused 2", "{line}");
+        }
+    }
+}
+
+#[test]
+fn a_sheet_that_is_no_question_is_refused_with_5_before_2() {
+    for marks in [
+        " ",
+        " name",
+        " name 0",
+        " name 0 35 ",
+        " name 0 35 36",
+        " name 0  35",
+        "  name 0 35",
+        " name 0 35\t",
+        " Name 0 35",
+        " names 0 35",
+        " year 0 35",
+        " leap",
+        " leap 10 0",
+        " leap 10 leap",
+        " 0 35",
+        " name 0 x",
+        " name x 35",
+        " leap -1",
+        " name 0 18446744073709551616",
+        " leap 000000000000000000010",
+    ] {
+        for line in [
+            format!("sheet{marks}"),
+            format!("sheet leap 13{marks}"),
+            format!("sheet{marks} leap 13"),
+        ] {
+            assert_eq!(reply(line.as_bytes()), "refused 5", "{line}");
+        }
+    }
+}
+
+#[test]
+fn a_line_may_have_1023_bytes() {
+    let names = " name 0 35".repeat(101);
+    let longest = format!("sheet{names} leap 10");
+    assert_eq!(longest.len(), 1023);
+    assert_eq!(reply(longest.as_bytes()), reply(b"sheet name 0 35 leap 10"));
+    assert_eq!(
+        reply(format!("sheet{names} leap 010").as_bytes()),
+        "refused 5"
+    );
+    assert_eq!(
+        reply(format!("sheet{names} leap 13").as_bytes()),
+        "refused 2"
+    );
+    assert_eq!(
+        reply(format!("sheet{names} leap 013").as_bytes()),
+        "refused 5"
+    );
 }

@@ -1,6 +1,7 @@
 //! The examples and identities of document 01, its expectations typed from the paper.
 
 use second::calendar::*;
+use second::sheet::{line, marks_of, whole, years, Mark, Told};
 
 /// Returns a time's day and remainder.
 fn split(time: Number) -> (Number, Number) {
@@ -302,6 +303,35 @@ fn the_way_back_returns_every_day() {
         let back = months.back(year, place, reply.day_of_month as u64);
         assert_eq!(back, Ok(Number::from(day)));
     }
+}
+
+#[test]
+fn the_marks_of_year_0() {
+    let months = Months::listed();
+    let marks = whole(&months.lists()[0]);
+    assert_eq!(marks.len(), 4 * 13 + 1);
+    let told = |place: usize| marks_of(place, &months.lists()[0][place]);
+    let at = |place: u64, told: Told| Mark { place, told };
+    assert_eq!(
+        told(0),
+        [
+            at(0, Told::Name(35)),
+            at(0, Told::Stem(5)),
+            at(0, Told::Branch(11)),
+            at(0, Told::Length(29))
+        ]
+    );
+    assert_eq!(told(10)[0], at(10, Told::Name(29)));
+    assert_eq!(
+        told(10)[3..],
+        [at(10, Told::Length(30)), at(10, Told::Leap)]
+    );
+    assert_eq!(years(&months, &marks), Ok(vec![0]));
+    assert_eq!(years(&months, &[at(13, Told::Leap)]), Err(2));
+    assert_eq!(
+        line(&told(10)[2..]),
+        "sheet branch 10 5 length 10 30 leap 10"
+    );
 }
 
 #[test]

@@ -70,7 +70,9 @@ fn the_leap_month_of_year_0_is_marked() {
 
 #[test]
 fn overlong_lines_are_one_refusal_each() {
-    for length in [255, 256, 257, 65_535, 65_536, 65_537, 300_000] {
+    for length in [
+        255, 256, 1022, 1023, 1024, 1025, 65_535, 65_536, 65_537, 300_000,
+    ] {
         for byte in [b' ', b'0', b'x', 0] {
             let line = vec![byte; length];
             let input = [line.as_slice(), b"\n", line.as_slice()].concat();
@@ -78,6 +80,23 @@ fn overlong_lines_are_one_refusal_each() {
             assert_eq!(output(&["lines"], &input), "E5\nE5\n");
         }
     }
+}
+
+#[test]
+fn a_line_is_read_to_its_last_byte() {
+    let longest = ["sheet", &" name 0 35".repeat(101), " leap 10"].concat();
+    let input = format!("{longest}\n{longest}0\n{longest}");
+    let told = output(&["desk"], input.as_bytes());
+    let told: Vec<&str> = told.lines().collect();
+    assert_eq!(told.len(), 3);
+    assert_eq!(told[0], told[2]);
+    assert!(told[0].starts_with("0 "));
+    assert_eq!(told[1], "refused 5");
+    assert_eq!(output(&["desk", &longest], b""), format!("{}\n", told[0]));
+    assert_eq!(
+        output(&["desk", &longest, "leap", "10"], b""),
+        "refused 5\n"
+    );
 }
 
 #[test]
@@ -91,7 +110,7 @@ fn the_words_of_a_question_are_joined_by_one_blank() {
 
 #[test]
 fn an_unknown_usage_gives_the_help_text_and_2() {
-    let usages: [&[&str]; 7] = [
+    let usages: [&[&str]; 8] = [
         &[],
         &["x"],
         &["ask"],
@@ -99,6 +118,7 @@ fn an_unknown_usage_gives_the_help_text_and_2() {
         &["ask", "names", "x"],
         &["facts", "x"],
         &["lines", "x"],
+        &["names", "x"],
     ];
     for usage in usages {
         let output = run(usage, b"");
@@ -111,4 +131,43 @@ fn an_unknown_usage_gives_the_help_text_and_2() {
 #[test]
 fn the_facts_hold() {
     assert_eq!(output(&["facts"], b"").lines().count(), 1);
+}
+
+/// Returns the numbers of a text, commas between their digits left out.
+fn numbers(text: &str) -> Vec<String> {
+    text.replace(',', "")
+        .split(|each: char| !each.is_ascii_digit() && each != '.')
+        .map(|number| number.trim_matches('.').to_string())
+        .filter(|number| !number.is_empty())
+        .collect()
+}
+
+#[test]
+fn the_page_on_sheets_has_the_figures_of_the_names() {
+    let path = format!("{}/../docs/SHEETS.md", env!("CARGO_MANIFEST_DIR"));
+    let page = std::fs::read_to_string(&path).expect("the page can be read");
+    let section = page.split("\n## How many names it takes\n").nth(1);
+    let section = section.expect("the page has the section");
+    let section = section.split("\n## ").next().expect("a text has a start");
+    let told = output(&["names"], b"");
+    // a block holds lines of the command, in order
+    let mut quoted = 0;
+    for block in section.split("```").skip(1).step_by(2) {
+        let mut told = told.lines();
+        for line in block.lines().skip(2) {
+            assert!(told.any(|each| each == line), "{line}");
+            quoted += 1;
+        }
+    }
+    assert_eq!(quoted, 22);
+    // a figure of the prose is one of the commands, their list of years left out
+    let figures = told.lines().filter(|line| !line.starts_with("not "));
+    let known: Vec<String> = figures.flat_map(numbers).collect();
+    let known = [known, numbers(&output(&["facts"], b""))].concat();
+    for prose in section.split("```").step_by(2) {
+        for number in numbers(prose) {
+            let known = known.contains(&number) || ["29", "30", "100"].contains(&number.as_str());
+            assert!(known, "{number}");
+        }
+    }
 }
