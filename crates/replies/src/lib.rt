@@ -34,9 +34,7 @@ pub fn write_answer(line: &[u8], row: &mut [u8]) -> Answer
         if row.len() < SHEET_ROOM {
             return Answer::Refused(SHORT_ROW);
         }
-        return Answer::Number(
-            sheet_texts::put_sheet(words::after_word(line), row) as u64,
-        );
+        return Answer::Number(sheet_texts::put_sheet(words::after_word(line), row) as u64);
     }
     write_reply(questions::ask(line), row)
 }
