@@ -146,6 +146,6 @@ unfolding replyText constantsText filled piece taken decimal decimalIn
 constants-told = refl
 
 help-told : replyText help
-    ≡ bytesOf "questions: constants, solstice N, term N I, pentad N I P, earth N I, terms N, mean L Q, true L Q, solar L Q, lunar L Q, correction L Q, motion L Q, solar-at fast|slow T, lunar-at quick|tardy T, motion-at quick|tardy K, name D, hour R, extra R, vanishing R, head N, day D, back N P M, year N, years N C, help\n"
+    ≡ bytesOf "questions: constants, solstice N, term N I, pentad N I P, earth N I, terms N, mean L Q, true L Q, solar L Q, lunar L Q, correction L Q, motion L Q, solar-at fast|slow T, lunar-at quick|tardy T, motion-at quick|tardy K, name D, hour R, extra R, vanishing R, head N, day D, back N P M, year N, years N C, sheet [name P N|stem P S|branch P B|length P D|leap P].., help\n"
 unfolding replyText helpText
 help-told = refl

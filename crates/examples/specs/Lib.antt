@@ -3,3 +3,4 @@ pub mod Others
 pub mod Months
 pub mod Printed
 pub mod Desk
+pub mod Sheets
