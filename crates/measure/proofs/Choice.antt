@@ -1,9 +1,9 @@
 -- Laws of choices: of two numbers one is less or is not, a test passes or fails, and what holds in both cases of a choice holds of
 -- it.
 -- Assumes nothing.
-use mathlib.Core.Bool.{Bool, true, false, _&&_, false≢true}
+use mathlib.Core.Bool.{Bool, true, false, _&&_, _||_, false≢true}
 use mathlib.Core.Logic.{_⊎_, inl, inr}
-use mathlib.Core.Path.{_≡_, refl}
+use mathlib.Core.Path.{_≡_, refl, sym}
 use Prim.Native.Nat.{ℕ, _≤_, _<_}
 use native.Mathlib.Decide.{decLt}
 use native.Mathlib.Omega.{arith}
@@ -29,6 +29,15 @@ left-passes false t e = e
 pub right-passes : (s t : Bool) → (s && t) ≡ true → t ≡ true
 right-passes true t e = e
 right-passes false t e = absurd (false≢true e)
+
+-- one of two tests
+pub left-fails : (s t : Bool) → (s || t) ≡ false → s ≡ false
+left-fails true t e = e
+left-fails false t e = refl
+
+pub right-fails : (s t : Bool) → (s || t) ≡ false → t ≡ false
+right-fails true t e = absurd (false≢true (sym e))
+right-fails false t e = e
 
 module _ {A : Type 0} (P : A → Type 0) (a b : A) where
   pub if-cases : (t : Bool) → (t ≡ true → P a) → (t ≡ false → P b) → P (if t then a else b)

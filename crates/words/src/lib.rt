@@ -28,8 +28,8 @@ pub fn word_in<'a>(line: &'a [u8]) -> &'a [u8]
 pub fn after_word<'a>(line: &'a [u8]) -> &'a [u8]
     ensures { λ r. ⌜ now r ≡ afterWord (now (line .entry)) ⌝ }
 {
-    let end = bytes::scan::find(line, 0, line.len(), b' ');
-    &line[end..]
+    let from = bytes::scan::find(line, 0, line.len(), b' ');
+    &line[from..]
 }
 
 // The numbers of s, each with one blank before it.

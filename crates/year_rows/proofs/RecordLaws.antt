@@ -1,21 +1,25 @@
--- Laws of records: each is told by its month's kind, and a list has one for each month.
+-- Laws of records: each is told by its month's kind, a list has one for each month, and each is found in a row that holds the list.
 -- Assumes nothing.
 use mathlib.Core.Bool.{Bool, true, false}
-use mathlib.Core.List.{List, [], _∷_, _++_}
+use mathlib.Core.List.{List, [], _∷_, _++_, append-assoc}
+use mathlib.Core.Logic.{_⊎_, inl, inr}
 use mathlib.Core.Path.{_≡_, refl, ap, ap₂, sym, _∙_}
-use Prim.Native.Nat.{ℕ, zero, suc, _+_, _-_, _*_, _/_, _<_}
+use Prim.Native.Nat.{ℕ, zero, suc, _+_, _-_, _*_, _/_, _≤_, _<_}
 use native.Mathlib.Omega.{arith}
-use lib.ListN.{length, length-append}
+use lib.ListN.{length, getD, drop, length-append, List·getD-append}
+use lib.Seq.{getD-append-add}
 use Rattle.measure.specs.Choice.{if_then_else_}
+use Rattle.measure.specs.Row.{over}
+use Rattle.measure.proofs.Choice.{lt-or-ge}
 use Rattle.month_law.specs.Count.{oneIf}
-use Rattle.month_law.specs.Calendar.{Calendar, head, monthsIn, yearOf, leapAt, numberAt}
+use Rattle.month_law.specs.Calendar.{Calendar, lengthOf, head, monthsIn, yearOf, leapAt, numberAt, leapMark}
 use Rattle.month_law.specs.Lawful.{Lawful}
 use Rattle.month_law.proofs.Lists.{place-listed, listed-place}
 use Rattle.month_law.proofs.Runs.{year-of}
 use Rattle.kinds.specs.Kind.{Kind, ordinary, leap, numberIn, markIn}
 use Rattle.months.specs.Month.{kindAt}
 use Rattle.months.specs.Span.{LastBefore, kindBy}
-use Rattle.year_rows.specs.Records.{recordWidth, recordAt, recordOf, recordsOf}
+use Rattle.year_rows.specs.Records.{recordWidth, lengthPlace, markPlace, recordAt, recordOf, recordsOf}
 use Rattle.months.proofs.ByTerm.{year-told, year-is, kind-told}
 
 -- the record of a month by its two days and its kind
@@ -46,6 +50,53 @@ module _ (c : Calendar) where
   unfolding recordsOf recordAt
   length-records n zero = refl
   length-records n (suc k) = simp length-append (omega (arith, length-records n k))
+
+-- a row that holds a year's list first
+module _ (c : Calendar) (n : ℕ) where
+  record-width : (p : ℕ) → length (recordAt c n p) ≡ recordWidth
+  unfolding recordAt
+  record-width p = refl
+
+  -- number i of the record at place p
+  number-held : (k p i : ℕ) (rest : List ℕ) → p < k → i < recordWidth
+      → getD (recordsOf c n k ++ rest) (recordWidth * p + i) 0 ≡ getD (recordAt c n p) i 0
+  unfolding recordsOf
+  number-held zero p i rest h small = absurd (omega arith)
+  number-held (suc k) p i rest h small = by (λ l. number-held k p i (recordAt c n k ++ rest) l small) (lt-or-ge p k)
+    where
+      together : (recordsOf c n k ++ recordAt c n k) ++ rest ≡ recordsOf c n k ++ (recordAt c n k ++ rest)
+      together = append-assoc (recordsOf c n k) (recordAt c n k) rest
+
+      by : (p < k → getD (recordsOf c n k ++ (recordAt c n k ++ rest)) (recordWidth * p + i) 0 ≡ getD (recordAt c n p) i 0)
+          → (p < k) ⊎ (k ≤ p)
+          → getD ((recordsOf c n k ++ recordAt c n k) ++ rest) (recordWidth * p + i) 0 ≡ getD (recordAt c n p) i 0
+      by before (inl l) = rw together (before l)
+      by before (inr l) =
+          let same : p ≡ k = omega arith in
+          let place : recordWidth * p + i ≡ length (recordsOf c n k) + i = omega (arith, length-records c n k) in
+          let width : i < length (recordAt c n k) = omega (arith, record-width k) in
+          rw (together, place) (getD-append-add (recordsOf c n k) (recordAt c n k ++ rest) i 0)
+          ∙ List·getD-append (recordAt c n k) rest 0 i width
+          ∙ ap (λ (m : ℕ). getD (recordAt c n m) i 0) (sym same)
+
+  module _ (row old : List ℕ) (e : row ≡ over (recordsOf c n (monthsIn c n)) old) (p : ℕ) (h : p < monthsIn c n) where
+    held-at : (i : ℕ) → i < recordWidth → getD row (recordWidth * p + i) 0 ≡ getD (recordAt c n p) i 0
+    unfolding over
+    held-at i k = rw e (number-held (monthsIn c n) p i (drop (length (recordsOf c n (monthsIn c n))) old) h k)
+
+    pub first-held : getD row (recordWidth * p) 0 ≡ c .first (head c n + p)
+    unfolding recordAt
+    first-held =
+        let start : recordWidth * p ≡ recordWidth * p + 0 = omega arith in
+        ap (λ (j : ℕ). getD row j 0) start ∙ held-at 0 (omega arith)
+
+    pub length-held : getD row (recordWidth * p + lengthPlace) 0 ≡ lengthOf c (head c n + p)
+    unfolding recordAt
+    length-held = held-at lengthPlace (omega arith)
+
+    pub mark-held : getD row (recordWidth * p + markPlace) 0 ≡ leapMark c n p
+    unfolding recordAt
+    mark-held = held-at markPlace (omega arith)
 
 module _ (c : Calendar) (ok : Lawful c) where
   -- the record of a month is that of its place in its year's list

@@ -11,6 +11,13 @@ recordWidth = 4
 abbrev pub yearRoom : ℕ
 yearRoom = 13
 
+-- where a month's length and its leap mark stand in its record; its first day stands first
+abbrev pub lengthPlace : ℕ
+lengthPlace = 1
+
+abbrev pub markPlace : ℕ
+markPlace = 3
+
 module _ (c : Calendar) where
   -- first day, length, number, leap mark of the month at place p of year n
   unfoldable pub recordAt : ℕ → ℕ → List ℕ

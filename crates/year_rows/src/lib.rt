@@ -22,13 +22,13 @@ ghost use Rattle.year_rows.specs.Records.{recordWidth, yearRoom, recordO
 // How many numbers a record has, and where each stands in it.
 pub const RECORD_WIDTH: usize = 4;
 
-const FIRST: usize = 0;
+pub const FIRST: usize = 0;
 
-const LENGTH: usize = 1;
+pub const LENGTH: usize = 1;
 
-const NUMBER: usize = 2;
+pub const NUMBER: usize = 2;
 
-const MARK: usize = 3;
+pub const MARK: usize = 3;
 
 // The list of year n, from its head on: a month is of it where the one after begins no later than the next solstice. The first that is
 // not is the next head, which is handed back.
