@@ -1,4 +1,4 @@
-//! Proves the crate `viewer`, has it compiled for the machine at hand, and links the archive.
+//! Proves the crates `viewer` and `ask`, has them compiled for the machine at hand, and links their archives.
 
 use std::env;
 use std::path::{Path, PathBuf};
@@ -12,15 +12,18 @@ fn main() {
         println!("cargo:rerun-if-changed={}", root.join(each).display());
     }
     println!("cargo:rerun-if-env-changed=RATTLE_HOME");
-    build(&root.join("tools/native"), &out.join("libviewer.a"));
     println!("cargo:rustc-link-search=native={}", out.display());
-    println!("cargo:rustc-link-lib=static=viewer");
-    // for the tests that call the archive from C
+    for name in ["viewer", "ask"] {
+        build(&root.join("tools/native"), name, &out);
+        println!("cargo:rustc-link-lib=static={name}");
+    }
+    // for the tests that call the archives from C
     println!("cargo:rustc-env=VIEWER_ARCHIVE_FOLDER={}", out.display());
 }
 
-fn build(native: &Path, archive: &Path) {
-    let status = Command::new(native).arg("viewer").arg(archive).status();
+fn build(native: &Path, name: &str, out: &Path) {
+    let archive = out.join(format!("lib{name}.a"));
+    let status = Command::new(native).arg(name).arg(archive).status();
     match status {
         Ok(status) if status.success() => {}
         Ok(status) => panic!("{} failed: {status}", native.display()),

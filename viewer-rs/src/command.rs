@@ -1,6 +1,6 @@
 //! The questions of the command line.
 
-use crate::{file, find, month_of, months_of, page, text, Refusal};
+use crate::{file, find, month_of, months_of, page, sheet, text, Refusal};
 
 pub const HELP: &str = "\
 The Shoushi calendar of 1281, asked through its proved functions.
@@ -38,16 +38,22 @@ pub fn reply(words: &[&str]) -> Result<String, String> {
     match words {
         ["day", day] => about("Day", day, |d| Ok(text::day(d, &month_of(d)?))),
         ["year", year] => about("Solstice year", year, |n| Ok(text::year(n, &months_of(n)?))),
+        ["page", "sheet", given @ ..] => told(sheet::page(given)),
         ["page", year] => about("Solstice year", year, |n| Ok(page::year(n, &months_of(n)?))),
         ["find"] => Err(malformed("Nothing was given to find")),
-        ["find", given @ ..] => {
-            find::reply(&given.join(" ")).map_err(|refused| refused.to_string())
-        }
+        ["find", given @ ..] => told(find::reply(&given.join(" "))),
         ["help" | "--help" | "-h"] => Ok(HELP.to_string()),
         ["help", "file"] | ["file", "--help" | "-h"] => Ok(file::HELP.to_string()),
+        ["help", "sheet"] | ["sheet", "--help" | "-h"] => Ok(sheet::HELP.to_string()),
+        ["sheet", given @ ..] => told(sheet::reply(given)),
         [] => Err(malformed("No question was asked")),
         _ => Err(malformed(&format!("‘{}’ is no question", words.join(" ")))),
     }
+}
+
+/// Returns a reply with its refusal as a sentence.
+fn told(reply: Result<String, find::Refused>) -> Result<String, String> {
+    reply.map_err(|refused| refused.to_string())
 }
 
 /// Returns a sentence about words that are no question.

@@ -7,7 +7,7 @@ pub mod question;
 mod written;
 mod years;
 
-pub use months::months_of_civil;
+pub use months::{months_of_civil, number_asked, part_only};
 
 use crate::civil::{CivilYear, Era};
 use crate::command::MALFORMED;
@@ -18,13 +18,13 @@ use std::fmt;
 
 /// Numbers of refusals.
 const OUTSIDE_YEARS: u32 = 1;
-const OUTSIDE_LIST: u32 = 2;
+pub(crate) const OUTSIDE_LIST: u32 = 2;
 const OUTSIDE_DAYS: u32 = 3;
 
 /// First and last running day and civil year. Of the first civil year the calendar has months 11 and 12 only, of the
 /// last months 1 to 10.
 const DAYS: (u64, u64) = (35, 365_268);
-const YEARS: (u64, u64) = (1280, 2280);
+pub(crate) const YEARS: (u64, u64) = (1280, 2280);
 
 /// What was found.
 #[derive(Clone, Debug, Default, PartialEq, Eq)]
@@ -86,7 +86,7 @@ pub fn find(question: &Question) -> Result<Found, Refused> {
 }
 
 /// Returns the refusal of a number.
-fn refused(number: u32, why: String) -> Refused {
+pub(crate) fn refused(number: u32, why: String) -> Refused {
     Refused { number, why }
 }
 

@@ -1,6 +1,6 @@
-//! The Shoushi calendar for Rust: the month of a day and the months of a solstice year, as the proved
-//! functions of the crate `viewer` answer them, and their presentation as text and as a page. Every year that
-//! is a number here is a solstice year; the civil year stands in `civil`.
+//! The Shoushi calendar for Rust: the month of a day and the months of a solstice year, as the proved functions of the
+//! crate `viewer` answer them, every question of the desk, as that of the crate `ask` does, and their presentation as
+//! text and as a page. Every year that is a number here is a solstice year; the civil year stands in `civil`.
 
 pub mod civil;
 pub mod command;
@@ -9,6 +9,7 @@ pub mod find;
 pub mod names;
 pub mod page;
 pub mod raw;
+pub mod sheet;
 pub mod terms;
 pub mod text;
 pub mod western;
@@ -18,6 +19,9 @@ use std::fmt;
 /// How many records a row must have room for, and how many bytes a record has.
 pub const YEAR_ROOM: usize = 13;
 pub const RECORD_BYTES: usize = 16;
+
+/// How many bytes are enough for the desk's reply to every question.
+pub const REPLY_BYTES: usize = 2_097_152;
 
 /// A month of a solstice year's list.
 #[derive(Clone, Copy, Debug, PartialEq, Eq)]
@@ -99,6 +103,22 @@ pub fn months_of(year: u64) -> Result<Vec<Month>, Refusal> {
         .take(records)
         .map(month_in)
         .collect())
+}
+
+/// Returns the text of the desk's reply to a question, without its line end.
+pub fn ask(question: &str) -> Result<String, Refusal> {
+    let mut row = vec![0; REPLY_BYTES];
+    let written = raw::ask(question.as_bytes(), &mut row);
+    if written.refused != 0 {
+        return Err(Refusal(written.refused as u32));
+    }
+    row.truncate(written.bytes as usize);
+    let text = String::from_utf8_lossy(&row);
+    let text = text.trim_end_matches('\n');
+    match text.strip_prefix("refused ").map(str::parse) {
+        Some(Ok(number)) => Err(Refusal(number)),
+        _ => Ok(text.to_string()),
+    }
 }
 
 /// Returns the month of a record: four numbers of 32 bits, low byte first.

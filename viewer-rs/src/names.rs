@@ -9,6 +9,13 @@ pub struct Name {
     pub romanised: String,
 }
 
+impl Name {
+    /// Returns whether a text gives this name, in Chinese or romanised, with small letters or capitals.
+    pub fn is(&self, text: &str) -> bool {
+        self.chinese == text || self.romanised.eq_ignore_ascii_case(text)
+    }
+}
+
 /// A term of the year.
 pub struct Term {
     pub chinese: &'static str,
@@ -97,11 +104,10 @@ const fn term(chinese: &'static str, romanised: &'static str, english: &'static 
 
 /// Returns the name among the sixty at a count from a jiazi.
 pub fn sixty(count: u64) -> Name {
-    let stem = STEMS[(count % 10) as usize];
-    let branch = BRANCHES[(count % 12) as usize];
+    let (stem, branch) = (stem(count), branch(count));
     Name {
-        chinese: format!("{}{}", stem.0, branch.0),
-        romanised: format!("{}{}", stem.1, branch.1),
+        chinese: stem.chinese + &branch.chinese,
+        romanised: stem.romanised + &branch.romanised,
     }
 }
 
@@ -124,11 +130,34 @@ pub fn numeral(number: u64) -> String {
 /// Returns the count from a jiazi, 0 to 59, of the name among the sixty that a text gives, in Chinese or
 /// romanised.
 pub fn count_of(text: &str) -> Option<u64> {
-    let romanised = text.to_lowercase();
-    (0..60).find(|count| {
-        let name = sixty(*count);
-        name.chinese == text || name.romanised == romanised
-    })
+    (0..60).find(|count| sixty(*count).is(text))
+}
+
+/// Returns the stem at a count from jia.
+pub fn stem(count: u64) -> Name {
+    name(STEMS[(count % 10) as usize])
+}
+
+/// Returns the branch at a count from zi.
+pub fn branch(count: u64) -> Name {
+    name(BRANCHES[(count % 12) as usize])
+}
+
+fn name((chinese, romanised): (&str, &str)) -> Name {
+    Name {
+        chinese: chinese.to_string(),
+        romanised: romanised.to_string(),
+    }
+}
+
+/// Returns the count from jia, 0 to 9, of the stem that a text gives, in Chinese or romanised.
+pub fn stem_of(text: &str) -> Option<u64> {
+    (0..10).find(|count| stem(*count).is(text))
+}
+
+/// Returns the count from zi, 0 to 11, of the branch that a text gives, in Chinese or romanised.
+pub fn branch_of(text: &str) -> Option<u64> {
+    (0..12).find(|count| branch(*count).is(text))
 }
 
 /// Returns the number from 1 to 99 that a text gives in Chinese. 廿, 卅 and 卌 are 二十, 三十 and 四十.
@@ -156,9 +185,14 @@ pub fn of_month(month: &Month) -> Name {
     }
 }
 
-/// Returns the name of a month's length: 30 days are great, 29 small.
+/// Returns the name of a month's length.
 pub fn of_length(month: &Month) -> (&'static str, &'static str) {
-    if month.length == 30 {
+    length(month.length.into())
+}
+
+/// Returns the name of a length: 30 days are great, 29 small.
+pub fn length(days: u64) -> (&'static str, &'static str) {
+    if days == 30 {
         ("大", "da")
     } else {
         ("小", "xiao")

@@ -1,5 +1,5 @@
-//! The two functions of the proved archive, and all of the viewer's unsafe code. Nothing but the tests
-//! holds these declarations to `crates/viewer/src/lib.rt`; `crates/viewer/viewer.h` says the same in C.
+//! The functions of the two proved archives, and all of the viewer's unsafe code. Nothing but the tests holds these
+//! declarations to `src/lib.rt` of the crates `viewer` and `ask`; `viewer.h` and `ask.h` there say the same in C.
 //! Beside them stands one function of the system's C library, which asks about a terminal.
 
 /// A reply about a day. In a month `refused` is 0; a refusal has its number there and 0 elsewhere.
@@ -24,11 +24,26 @@ pub struct Count {
     pub records: u32,
 }
 
+/// How many bytes of text were written; where `refused` is not 0, none were.
+#[repr(C)]
+#[derive(Clone, Copy, Debug, PartialEq, Eq)]
+pub struct Written {
+    pub refused: u64,
+    pub bytes: u64,
+}
+
 extern "C" {
     fn lengadriu_day(d: u64) -> Day;
 
     // a lent row goes over as its address and its length
     fn lengadriu_year(row: *mut u8, length: usize, n: u64) -> Count;
+
+    fn lengadriu_ask(
+        line: *const u8,
+        line_length: usize,
+        row: *mut u8,
+        row_length: usize,
+    ) -> Written;
 
     fn isatty(descriptor: i32) -> i32;
 }
@@ -44,6 +59,13 @@ pub fn year(row: &mut [u8], n: u64) -> Count {
     // SAFETY: address and length are those of one slice, which no one else holds during the call, and
     // the function is proved to stay inside it and to return.
     unsafe { lengadriu_year(row.as_mut_ptr(), row.len(), n) }
+}
+
+/// Returns how much of the lent row is the desk's reply to a line, having written it.
+pub fn ask(line: &[u8], row: &mut [u8]) -> Written {
+    // SAFETY: addresses and lengths are those of two slices, of which no one else holds the row during the
+    // call, and the function is proved to stay inside them and to return.
+    unsafe { lengadriu_ask(line.as_ptr(), line.len(), row.as_mut_ptr(), row.len()) }
 }
 
 /// Returns whether the standard error is a terminal.

@@ -56,10 +56,8 @@ pub fn year(year: u64, months: &[Month]) -> String {
     let (head, listed) = lines.split_at(1);
     let (before, after) = listed.split_at(parts[0].months.len());
     format!(
-        "Solstice year {year} ({}), {} and {}: {} months, {days} days\n\n{}\n{}{}\n{}{}\n{}\n",
-        civil::span(year),
-        both(&parts[0].year.name()),
-        both(&parts[1].year.name()),
+        "{}: {} months, {days} days\n\n{}\n{}\n{}\n{}\n{}\n{}\n",
+        solstice_year(year),
         months.len(),
         head.concat(),
         heading(&parts[0]),
@@ -70,11 +68,18 @@ pub fn year(year: u64, months: &[Month]) -> String {
     )
 }
 
-/// Returns the line above the months of a civil year.
-fn heading(part: &Part) -> String {
+/// Returns a solstice year with the sixty-names of its two civil years.
+pub fn solstice_year(year: u64) -> String {
+    let [before, begun] = civil::parts(year, &[]).map(|part| both(&part.year.name()));
+    let span = civil::span(year);
+    format!("Solstice year {year} ({span}), {before} and {begun}")
+}
+
+/// Returns a civil year with its sixty-name and the eras of its months.
+pub fn heading(part: &Part) -> String {
     match part.eras_told(both) {
-        Some(eras) => format!("Civil year {}, {eras}*\n", civil_year(part.year)),
-        None => format!("Civil year {}\n", civil_year(part.year)),
+        Some(eras) => format!("Civil year {}, {eras}*", civil_year(part.year)),
+        None => format!("Civil year {}", civil_year(part.year)),
     }
 }
 
@@ -177,7 +182,7 @@ pub fn aligned<const COLUMNS: usize>(rows: &[[String; COLUMNS]]) -> Vec<String> 
 }
 
 /// Returns how many columns of a terminal a text takes: a Chinese character takes two.
-fn width(text: &str) -> usize {
+pub fn width(text: &str) -> usize {
     text.chars()
         .map(|each| if each >= '\u{2E80}' { 2 } else { 1 })
         .sum()

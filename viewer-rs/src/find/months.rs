@@ -10,13 +10,7 @@ use crate::{months_of, Month, Refusal};
 
 /// Returns a month of a civil year.
 pub fn month_asked(year: CivilYear, asked: MonthAsked) -> Result<Month, Refused> {
-    let number = match asked.number {
-        number @ 1..=12 => number as u32,
-        _ => {
-            let why = "the months of a civil year are numbered 1 to 12".to_string();
-            return Err(refused(OUTSIDE_LIST, why));
-        }
-    };
+    let number = number_asked(asked)?;
     let list = year.solstice_year(number).ok_or(Refusal(OUTSIDE_YEARS));
     let list = list.and_then(months_of).map_err(|refusal| Refused {
         number: refusal.0,
@@ -25,6 +19,17 @@ pub fn month_asked(year: CivilYear, asked: MonthAsked) -> Result<Month, Refused>
     let is_asked = |month: &&Month| month.number == number && month.leap == asked.leap;
     let month = list.iter().find(is_asked).copied();
     month.ok_or_else(|| no_leap(year, number))
+}
+
+/// Returns the number of a month, where a civil year may have it.
+pub fn number_asked(asked: MonthAsked) -> Result<u32, Refused> {
+    match asked.number {
+        number @ 1..=12 => Ok(number as u32),
+        _ => {
+            let why = "the months of a civil year are numbered 1 to 12".to_string();
+            Err(refused(OUTSIDE_LIST, why))
+        }
+    }
 }
 
 /// Returns the refusal of a leap month that a civil year has not.

@@ -103,6 +103,14 @@ pub fn read(text: &str) -> Result<Question, String> {
     question.unwrap_or_else(|| Err(stopped(text, place)))
 }
 
+/// Returns the month that a whole text names, as a question does.
+pub fn month(text: &str) -> Option<MonthAsked> {
+    let (tokens, _) = tokens(text).ok()?;
+    let mut reader = Reader { rest: &tokens };
+    let month = reader.month()??;
+    reader.is_done().then_some(month)
+}
+
 /// Returns how far a text is understood: up to a place, or to its end, where more was to come.
 fn stopped(text: &str, place: Option<usize>) -> String {
     let how = match place {
@@ -180,7 +188,7 @@ fn kind(each: char) -> Kind {
 }
 
 /// Returns the character that stands here for a simplified one, a variant, or a wide digit.
-fn traditional(each: char) -> char {
+pub fn traditional(each: char) -> char {
     match each {
         '０'..='９' => char::from(b'0' + (u32::from(each) - u32::from('０')) as u8),
         '闰' => '閏',
