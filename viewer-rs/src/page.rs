@@ -13,18 +13,16 @@ pub fn year(year: u64, months: &[Month]) -> String {
     let parts = civil::parts(year, months);
     let falling = falling(year);
     let listed: String = (0..=terms::LAST).map(|term| listed(year, term)).collect();
-    format!(
-        "<!DOCTYPE html>\n<html lang=\"en\">\n<head>\n<meta charset=\"utf-8\">\n\
-         <meta name=\"viewport\" content=\"width=device-width, initial-scale=1\">\n\
-         <title>Shoushi solstice year {year} ({span})</title>\n<style>\n{STYLE}</style>\n</head>\n<body>\n\
-         <header>\n<h1>{} <span>Shoushi solstice year {year} ({span})</span></h1>\n\
+    let title = format!("Shoushi solstice year {year} ({span})");
+    let body = format!(
+        "<header>\n<h1>{} <span>{title}</span></h1>\n\
          {}{}<p>{}</p>\n</header>\n<main>\n\
          <table class=\"months\">\n\
          <thead><tr><th scope=\"col\">Month</th><th scope=\"col\">First day · Western date*</th>\
          <th scope=\"col\">Days and terms</th></tr></thead>\n\
          {}{}</table>\n\
          <h2>{} <span>The 24 terms</span></h2>\n<ol class=\"terms\">\n{listed}</ol>\n</main>\n\
-         <footer>\n{}<p>{}</p>\n</footer>\n</body>\n</html>\n",
+         <footer>\n{}<p>{}</p>\n</footer>\n",
         chinese("授時曆"),
         spanned(&parts[0]),
         spanned(&parts[1]),
@@ -34,6 +32,16 @@ pub fn year(year: u64, months: &[Month]) -> String {
         chinese("二十四氣"),
         legend(),
         courtesy_note(&parts),
+    );
+    document(&title, "", &body)
+}
+
+/// Returns a page that needs nothing besides itself.
+pub fn document(title: &str, style: &str, body: &str) -> String {
+    format!(
+        "<!DOCTYPE html>\n<html lang=\"en\">\n<head>\n<meta charset=\"utf-8\">\n\
+         <meta name=\"viewport\" content=\"width=device-width, initial-scale=1\">\n\
+         <title>{title}</title>\n<style>\n{STYLE}{style}</style>\n</head>\n<body>\n{body}</body>\n</html>\n"
     )
 }
 
@@ -82,7 +90,7 @@ fn named(year: CivilYear) -> String {
 }
 
 /// Returns a civil year's eras as they follow its name, where they are known.
-fn eras(part: &Part) -> String {
+pub fn eras(part: &Part) -> String {
     match part.eras_told(both) {
         Some(eras) => format!(" <span class=\"era\">{eras}*</span>"),
         None => String::new(),
@@ -234,16 +242,16 @@ fn class(term: u64) -> &'static str {
 }
 
 /// Returns Chinese text, marked as such.
-fn chinese(text: &str) -> String {
+pub fn chinese(text: &str) -> String {
     format!("<span class=\"zh\" lang=\"zh-Hant\">{text}</span>")
 }
 
 /// Returns romanised text, marked as such.
-fn romanised(text: &str) -> String {
+pub fn romanised(text: &str) -> String {
     format!("<em lang=\"zh-Latn-pinyin\">{text}</em>")
 }
 
 /// Returns a name in Chinese and romanised.
-fn both(name: &Name) -> String {
+pub fn both(name: &Name) -> String {
     format!("{} {}", chinese(&name.chinese), romanised(&name.romanised))
 }

@@ -102,6 +102,13 @@ impl Spot {
     }
 }
 
+impl Mark {
+    /// Returns whether it says only that the civil year has a leap month.
+    pub fn is_leap_month(&self) -> bool {
+        matches!((self.spot, self.reading), (Spot::Month(_), Reading::Leap))
+    }
+}
+
 /// Returns the reply to a sheet as text.
 pub fn reply(words: &[&str]) -> Result<String, Refused> {
     let asked = marks::read(words)?;
@@ -130,16 +137,16 @@ pub fn candidates(sheet: &Sheet) -> Result<Vec<Candidate>, Refused> {
     Ok(years.into_iter().map(candidate).collect())
 }
 
-/// Returns the years that agree with all marks but one, those of a mark that few years leave first. A year must have the
-/// month that is misread; only one that is named by itself may be another's.
+/// Returns the years that agree with all marks but one, those of the mark that leaves the fewest first. A year must have
+/// the month of which something is misread, but for a leap month that was read for another or for none.
 fn misread(sheet: &Sheet) -> Result<Vec<Candidate>, Refusal> {
     let mut groups = Vec::new();
     for (which, mark) in sheet.marks.iter().enumerate() {
         let mut others = sheet.marks.clone();
         others.remove(which);
         let mut years = lists::agreeing(sheet.by, &others)?;
-        let itself = sheet.by == By::Month && mark.reading == Reading::Leap;
-        years.retain(|year| itself || mark.spot.of(&lists::months(sheet.by, *year)).is_some());
+        let has = |year| mark.spot.of(&lists::months(sheet.by, year)).is_some();
+        years.retain(|year| mark.is_leap_month() || has(*year));
         groups.push((which, years));
     }
     groups.sort_by_key(|(_, years)| years.len());

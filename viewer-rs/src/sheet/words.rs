@@ -38,9 +38,9 @@ pub fn counted_but_one(sheet: &Sheet, count: usize) -> String {
 pub fn marks(sheet: &Sheet, shown: Shown) -> String {
     let told = |mark: &Mark| {
         let read = read(mark.reading, shown);
-        match (mark.reading, mark.spot) {
-            (Reading::Leap, Spot::Month(_)) => named(mark.spot),
-            (Reading::Leap | Reading::Length(_), _) => format!("{read} {}", at(mark.spot)),
+        match mark.reading {
+            _ if mark.is_leap_month() => named(mark.spot),
+            Reading::Leap | Reading::Length(_) => format!("{read} {}", at(mark.spot)),
             _ => format!("first day {read} {}", at(mark.spot)),
         }
     };
@@ -92,9 +92,8 @@ fn name(chinese: String, romanised: String) -> Name {
 
 /// Returns what a mark would have to read in a year's months.
 pub fn would_read(mark: &Mark, months: &[Month], shown: Shown) -> String {
-    let month = match (mark.spot, mark.reading, mark.spot.of(months)) {
-        (Spot::Place(_), _, Some(month)) => month,
-        (Spot::Month(_), reading, Some(month)) if reading != Reading::Leap => month,
+    let month = match mark.spot.of(months) {
+        Some(month) if !mark.is_leap_month() => month,
         _ => {
             let leap = months.iter().find(|month| month.leap);
             return leap.map_or("no leap month".to_string(), numbered);
