@@ -61,7 +61,7 @@ fn told(sheet: &Sheet, candidates: &[Candidate]) -> Vec<String> {
     let mut told = match agreeing(candidates) {
         0 => vec![words::counted_but_one(sheet, years.len())],
         1 => Vec::new(),
-        _ => vec![words::told_apart(telling::best(sheet, &years))],
+        _ => vec![words::told_apart(telling::apart(sheet, &years))],
     };
     told.extend(words::cut(sheet.by, &years));
     told

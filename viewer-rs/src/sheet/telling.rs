@@ -1,4 +1,5 @@
-//! Which further name would tell years apart best.
+//! Which further mark would tell years apart. Many years have a twin, mostly 124 years on, whose months begin on days of
+//! the same names: these no name tells apart.
 
 use super::{lists, By, Reading, Sheet, Spot};
 use crate::civil::CivilYear;
@@ -6,6 +7,19 @@ use crate::find::part_only;
 use crate::find::question::MonthAsked;
 use crate::Month;
 use std::collections::HashMap;
+use std::hash::Hash;
+
+/// What would tell years apart.
+#[derive(Clone, Copy, Debug, PartialEq, Eq)]
+pub enum Apart {
+    /// The name of a first day.
+    Name(Telling),
+    /// No name, but which month is leap.
+    LeapMonth,
+    /// No name, but the length of a month.
+    Length(Spot),
+    Nothing,
+}
 
 /// What the name of the first day at a spot would leave of some years.
 #[derive(Clone, Copy, Debug, PartialEq, Eq)]
@@ -26,46 +40,33 @@ impl Telling {
     }
 }
 
-/// Returns what would be left by the name that tells years apart best: the fewest on average, and then at most.
-pub fn best(sheet: &Sheet, years: &[u64]) -> Option<Telling> {
-    let months = |year: &u64| lists::months(sheet.by, *year);
-    let years: Vec<(u64, Vec<Month>)> = years.iter().map(|year| (*year, months(year))).collect();
-    let further = spots(sheet.by).into_iter().filter(|spot| {
-        let is_name = |reading| matches!(reading, Reading::Name(_));
-        let known = (sheet.marks.iter()).any(|mark| mark.spot == *spot && is_name(mark.reading));
-        !known
-            && years
-                .iter()
-                .all(|(year, months)| may_be_read(sheet.by, *spot, *year, months))
-    });
-    further
-        .map(|spot| left(spot, &years))
+/// A year with its months.
+type Listed = (u64, Vec<Month>);
+
+/// Returns what would tell years apart; of several names the one that leaves the fewest on average, and then at most.
+pub fn apart(sheet: &Sheet, years: &[u64]) -> Apart {
+    let listed = |year: &u64| (*year, lists::months(sheet.by, *year));
+    let years: Vec<Listed> = years.iter().map(listed).collect();
+    let mut spots = spots(sheet.by);
+    spots.retain(|spot| years.iter().all(|year| may_be_read(sheet.by, *spot, year)));
+    let best = (spots.iter())
+        .filter(|spot| !is_named(sheet, **spot))
+        .map(|spot| left(*spot, &years))
         .filter(|telling| telling.most < years.len())
-        .min_by_key(|telling| (telling.sum, telling.most))
-}
-
-/// Returns whether there is a name to be read at a spot of a year's sheet, though the calendar may not have the month.
-fn may_be_read(by: By, spot: Spot, year: u64, months: &[Month]) -> bool {
-    let cut = by == By::Month && part_only(CivilYear(year)).is_some();
-    cut || spot.of(months).is_some()
-}
-
-/// Returns what the name at a spot would leave of years.
-fn left(spot: Spot, years: &[(u64, Vec<Month>)]) -> Telling {
-    let mut counts: HashMap<Option<u32>, usize> = HashMap::new();
-    for (_, months) in years {
-        let name = spot.of(months).map(|month| month.first % 60);
-        *counts.entry(name).or_default() += 1;
-    }
-    Telling {
-        spot,
-        years: years.len(),
-        most: counts.values().copied().max().unwrap_or(0),
-        sum: counts.values().map(|count| count * count).sum(),
+        .min_by_key(|telling| (telling.sum, telling.most));
+    let leap = |months: &[Month]| months.iter().position(|month| month.leap);
+    let differ = |spot: &&Spot| alike(&years, |months| Some(spot.of(months)?.length)).len() > 1;
+    match best {
+        Some(best) => Apart::Name(best),
+        None if alike(&years, leap).len() > 1 => Apart::LeapMonth,
+        None => spots
+            .iter()
+            .find(differ)
+            .map_or(Apart::Nothing, |spot| Apart::Length(*spot)),
     }
 }
 
-/// Returns where a name may stand.
+/// Returns where a mark may stand.
 fn spots(by: By) -> Vec<Spot> {
     match by {
         By::Place => (0..=12).map(Spot::Place).collect(),
@@ -73,4 +74,37 @@ fn spots(by: By) -> Vec<Spot> {
             .flat_map(|number| [false, true].map(|leap| Spot::Month(MonthAsked { number, leap })))
             .collect(),
     }
+}
+
+/// Returns whether a year's sheet has the month at a spot, though the calendar may have cut it off.
+fn may_be_read(by: By, spot: Spot, (year, months): &Listed) -> bool {
+    let cut = by == By::Month && part_only(CivilYear(*year)).is_some();
+    cut || spot.of(months).is_some()
+}
+
+/// Returns whether a mark has the whole name at a spot already.
+fn is_named(sheet: &Sheet, spot: Spot) -> bool {
+    let is_name = |reading| matches!(reading, Reading::Name(_));
+    let mut marks = sheet.marks.iter();
+    marks.any(|mark| mark.spot == spot && is_name(mark.reading))
+}
+
+/// Returns what the name at a spot would leave of years.
+fn left(spot: Spot, years: &[Listed]) -> Telling {
+    let counts = alike(years, |months| Some(spot.of(months)?.first % 60));
+    Telling {
+        spot,
+        years: years.len(),
+        most: counts.iter().copied().max().unwrap_or(0),
+        sum: counts.iter().map(|count| count * count).sum(),
+    }
+}
+
+/// Returns how many years are alike in something of their months, for each thing that it is.
+fn alike<T: Eq + Hash>(years: &[Listed], what: impl Fn(&[Month]) -> T) -> Vec<usize> {
+    let mut counts: HashMap<T, usize> = HashMap::new();
+    for (_, months) in years {
+        *counts.entry(what(months)).or_default() += 1;
+    }
+    counts.into_values().collect()
 }

@@ -1,6 +1,6 @@
 //! What text and page say of a sheet in words. Names are shown as each of them shows a name.
 
-use super::telling::Telling;
+use super::telling::Apart;
 use super::{By, Mark, Reading, Sheet, Spot};
 use crate::civil::CivilYear;
 use crate::find::part_only;
@@ -133,21 +133,27 @@ pub fn months(by: By, months: &[Month]) -> String {
     }
 }
 
-/// Returns which further name would tell years apart best.
-pub fn told_apart(best: Option<Telling>) -> String {
-    let best = match best {
-        Some(best) => best,
-        None => return "No further name of a first day would tell them apart.".to_string(),
-    };
-    let left = match best.most {
-        1 => "it leaves one year".to_string(),
-        most => format!(
-            "it leaves {most} years at most, {} on average",
-            best.average()
-        ),
-    };
-    format!(
-        "Best told apart by the first day's name {}: {left}.",
-        at(best.spot)
-    )
+/// Returns what would tell years apart.
+pub fn told_apart(apart: Apart) -> String {
+    let no_name = "No further name of a first day tells them apart";
+    match apart {
+        Apart::Name(best) => {
+            let left = match best.most {
+                1 => "it leaves one year".to_string(),
+                most => format!(
+                    "it leaves {most} years at most, {} on average",
+                    best.average()
+                ),
+            };
+            format!(
+                "Best told apart by the first day's name {}: {left}.",
+                at(best.spot)
+            )
+        }
+        Apart::LeapMonth => format!("{no_name}; which month is leap does."),
+        Apart::Length(spot) => format!("{no_name}; how many days there are {} does.", at(spot)),
+        Apart::Nothing => {
+            "No mark tells them apart: names, lengths and leap month are the same.".to_string()
+        }
+    }
 }

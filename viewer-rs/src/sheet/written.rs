@@ -87,7 +87,7 @@ fn agreeing(sheet: &Sheet, candidates: &[Candidate]) -> Listed {
     let years: Vec<u64> = candidates.iter().map(|candidate| candidate.year).collect();
     let apart = match years.len() {
         1 => String::new(),
-        _ => wrapped(&words::told_apart(telling::best(sheet, &years))),
+        _ => wrapped(&words::told_apart(telling::apart(sheet, &years))),
     };
     let tail = apart + &courtesy(by, &years);
     Listed {
