@@ -13,6 +13,12 @@ The Shoushi calendar of 1281, asked through its proved functions.
                    viewer find 9 January 1283   (9 Jan 1283, 1283-01-09, 16 January 1283 gregorian)
                    viewer find 1281 leap 8 12   (Zhiyuan 18 leap 8 12, 至元十八年閏八月十二日)
                    viewer find 1281 jiachen     (1281 leap 8 jiachen, 至元十八年甲辰)
+  viewer sheet MARK…
+                   the years that a torn sheet may be of, from marks that can still be read, by the places of
+                   a solstice year's list or by the months of a civil year; ‘viewer help sheet’ says how:
+                   viewer sheet 0=jihai 3=30 10=leap      (0=己? for a name of which half is lost)
+                   viewer sheet --civil 三月=丁酉 leap8=30
+                   viewer page sheet 0=jihai 3=30 10=leap > sheet.html
   viewer file FLAGS [FILE]
                    the days of a file or of the standard input, one a line or in a column of CSV, filed
                    by civil year and month as CSV; ‘viewer help file’ says how

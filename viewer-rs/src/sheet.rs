@@ -15,26 +15,32 @@ use crate::find::{refused, Refused, OUTSIDE_LIST};
 use crate::{Month, Refusal};
 
 pub const HELP: &str = "\
-viewer sheet MARK…           the solstice years whose list of months agrees with every mark of a torn sheet
-viewer sheet --civil MARK…   the civil years, from marks by months, as a printed almanac names them
-viewer page sheet …          either as a page of HTML, the marks above the lists: viewer page sheet 0=jihai > sheet.html
+viewer sheet MARK…           the solstice years whose list agrees with every mark of a torn sheet
+viewer sheet --civil MARK…   the civil years that do, with marks by months, as a printed almanac names them
+viewer page sheet …          either as a page of HTML, the marks above the lists, to print or for a phone
 
-A mark is one word, PLACE=WHAT: PLACE is the month's place in the solstice year's list, 0 to 12, and WHAT is read there:
-  己亥, jihai      the sixty-name of the month's first day
-  己?, ji?         its stem, where the branch is lost; ?亥, ?hai its branch, where the stem is. ？ and □ do for ? too
-  29, 小, xiao     the month's length; 30, 大, da
-  leap, 閏, run    that the month is leap
-Of one month several marks may be given. A mark that is missing says nothing: the month may be leap or not. Some
-shells take ? for themselves: ‘4='ji?'’.
+A mark is one word, PLACE=WHAT. PLACE is the place of a month in the solstice year's list, 0 to 12, and WHAT is
+  jihai, 己亥      the sixty-name of the month's first day
+  ji?, 己?         its stem, where the branch is lost
+  ?hai, ?亥        its branch, where the stem is lost; ？ and □ stand for what is lost too
+  29, xiao, 小     the month's length; 30, da, 大
+  leap, run, 閏    that the month is leap
+Several marks may stand at one place. What is not marked is open: a month without the mark may be leap. Where the
+shell takes ? for itself, it stands in quotes: viewer sheet 0=jihai '4=ding?'
 
 With --civil a mark is MONTH=WHAT, of a civil year:
-  3, 三月          month 3; 正月 is month 1, 冬月 month 11, 臘月 month 12
-  leap8, l8, 閏8, 閏八月
-                   the leap month after month 8; alone, without =WHAT, that the year has it. 8 is never leap 8
+  3=…, 三月=…      month 3; 正月 is month 1, 冬月 month 11, 臘月 month 12
+  leap8=…, l8=…, 閏8=…, 閏八月=…
+                   the leap month after month 8; 8=… is month 8 and never the leap month
+  leap8, 閏八月    alone: that the year has this leap month
 
-A screenful of years is listed with their months' first days, as running days and sixty-names with 大 or 小; --all
-lists all of them. Where none agrees, the years are listed that agree with all marks but one, which would be misread,
-with what it would have to read. Where several do, that month is told whose name would tell them apart best.
+  --all            lists all years; else there is a screenful of them, or 12 on a page
+
+Each year is listed with the first days of its months, as running days and as sixty-names with 大 or 小. Where none
+agrees, those are listed that agree with all marks but one, with what this would have to read. Where several do, it
+is told which further name would tell them apart best. Of civil year 1280 the calendar has months 11 and 12 only and
+of 2280 months 1 to 10: these agree where all marks lie in what there is. The lists are the Shoushi calendar's: on a
+sheet reckoned otherwise a month may begin a day sooner or later, or another month be leap.
 ";
 
 /// What the marks of a sheet stand at.

@@ -1,8 +1,12 @@
 //! The replies and every byte of the rows, held to the independent second program.
 
-use lengadriu_viewer::raw::{self, Count, Day};
-use lengadriu_viewer::{month_of, months_of, write_year, Month, Refusal, RECORD_BYTES, YEAR_ROOM};
+use lengadriu_viewer::raw::{self, Count, Day, Written};
+use lengadriu_viewer::{
+    ask, month_of, months_of, write_year, Month, Refusal, RECORD_BYTES, REPLY_BYTES, YEAR_ROOM,
+};
+use second::ask::DAMAGED;
 use second::calendar::{Months, Record, LONGEST_LIST};
+use second::desk;
 
 /// Numbers that a program of fewer bits, or one that takes a sign, would take for others.
 const FAR: [u64; 12] = [
@@ -206,5 +210,85 @@ fn threads_do_not_disturb_each_other() {
         .collect();
     for (thread, alone) in threads.into_iter().zip(alone) {
         assert!(thread.join().unwrap() == alone);
+    }
+}
+
+/// Lines that ask each question of the desk, and lines that ask none.
+fn lines() -> Vec<String> {
+    let good = |(word, parts): &(&str, &[&str])| [&[*word], *parts].concat().join(" ");
+    let mut lines: Vec<String> = DAMAGED.iter().map(good).collect();
+    for line in lines.clone() {
+        lines.extend([
+            format!(" {line}"),
+            format!("{line} "),
+            line.to_uppercase(),
+            line + " 1",
+        ]);
+    }
+    lines.extend((0..=1_001).map(|year| format!("year {year}")));
+    lines.extend((0..365_300).step_by(997).map(|day| format!("day {day}")));
+    lines.extend(
+        [
+            "",
+            " ",
+            "\n",
+            "dya 340",
+            "day ３４０",
+            "years 0 1000",
+            "years 1 1000",
+        ]
+        .map(String::from),
+    );
+    lines.extend([1_023, 1_024, 5_000].map(|bytes| "9".repeat(bytes)));
+    lines
+}
+
+#[test]
+fn the_desk_answers_as_the_second_program() {
+    let months = Months::listed();
+    let mut row = vec![0; REPLY_BYTES];
+    for line in lines() {
+        let expected = desk::reply(&months, line.as_bytes());
+        let written = raw::ask(line.as_bytes(), &mut row);
+        let bytes = expected.len() as u64 + 1;
+        assert_eq!(written, Written { refused: 0, bytes }, "{line}");
+        assert_eq!(
+            row[..bytes as usize],
+            *format!("{expected}\n").as_bytes(),
+            "{line}"
+        );
+        let expected = match expected.strip_prefix("refused ") {
+            Some(number) => Err(Refusal(number.parse().unwrap())),
+            None => Ok(expected),
+        };
+        assert_eq!(ask(&line), expected, "{line}");
+    }
+}
+
+#[test]
+fn a_row_that_is_too_short_keeps_its_bytes() {
+    for line in ["day 340", "year 0", "day 34", "sheet leap 10", ""] {
+        let whole = ask(line).map_or_else(|k| format!("refused {}\n", k.0), |text| text + "\n");
+        let mut answered = false;
+        for length in [0, 1, 9, 100, 1_000, 10_000, 65_535, 65_536, REPLY_BYTES] {
+            let mut row = marked(length);
+            let written = raw::ask(line.as_bytes(), &mut row);
+            // what is enough for a row is enough for every longer one
+            if written.refused == 0 {
+                answered = true;
+                assert_eq!(written.bytes, whole.len() as u64);
+                assert!(row.starts_with(whole.as_bytes()), "{line}, {length}");
+            } else {
+                assert!(!answered && length < 65_536, "{line}, {length}");
+                assert_eq!(
+                    written,
+                    Written {
+                        refused: 4,
+                        bytes: 0
+                    }
+                );
+                assert_eq!(row, marked(length));
+            }
+        }
     }
 }
