@@ -55,8 +55,9 @@ impl fmt::Display for Refusal {
     fn fmt(&self, f: &mut fmt::Formatter<'_>) -> fmt::Result {
         let why = match self.0 {
             1 => "it lies outside the calendar's solstice years, 0 to 999",
+            2 => "a number lies outside its list",
             3 => "it lies outside the calendar's days, 35 to 365,268",
-            4 => "the row has room for fewer than 13 records",
+            4 => "the row is too short",
             _ => "the question is malformed",
         };
         write!(f, "{why} (refusal {})", self.0)

@@ -9,7 +9,6 @@ pub mod telling;
 mod words;
 mod written;
 
-use crate::command::MALFORMED;
 use crate::find::question::MonthAsked;
 use crate::find::{refused, Refused, OUTSIDE_LIST};
 use crate::{Month, Refusal};
@@ -165,22 +164,15 @@ fn misread(sheet: &Sheet) -> Result<Vec<Candidate>, Refusal> {
     Ok(candidates.collect())
 }
 
-/// Returns the calendar's refusal of a sheet with the mark that it refuses.
+/// Returns the calendar's refusal of a sheet, with the mark that it refuses.
 fn why(sheet: &Sheet, refusal: Refusal) -> Refused {
     let alone = |mark: &&Mark| lists::agreeing(sheet.by, &[(*mark).clone()]) == Err(refusal);
-    let (word, told) = match sheet.marks.iter().find(alone) {
-        Some(mark) if refusal.0 == OUTSIDE_LIST => {
-            let told = match sheet.by {
-                By::Place => "a place is 0 to 12 and a length 29 or 30 days",
-                By::Month => "a length is 29 or 30 days",
-            };
-            (mark.word.as_str(), told)
-        }
-        _ if refusal.0 == MALFORMED => (
-            "sheet",
-            "its marks are more than a line of 1,023 bytes holds",
-        ),
-        _ => ("sheet", "the calendar does not answer"),
+    let mark = sheet.marks.iter().find(alone);
+    let what = mark.map_or("The sheet".to_string(), |mark| format!("‘{}’", mark.word));
+    let told = match (refusal.0, sheet.by) {
+        (OUTSIDE_LIST, By::Place) => "a place is 0 to 12 and a length 29 or 30 days",
+        (OUTSIDE_LIST, By::Month) => "a length is 29 or 30 days",
+        _ => "its marks are more than the calendar takes, a line of 1,023 bytes",
     };
-    refused(refusal.0, format!("‘{word}’ is refused: {told}"))
+    refused(refusal.0, format!("{what} is refused: {told}"))
 }

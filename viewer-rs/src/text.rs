@@ -56,13 +56,13 @@ pub fn year(year: u64, months: &[Month]) -> String {
     let (head, listed) = lines.split_at(1);
     let (before, after) = listed.split_at(parts[0].months.len());
     format!(
-        "{}: {} months, {days} days\n\n{}\n{}\n{}\n{}\n{}\n{}\n",
+        "Solstice year {}: {} months, {days} days\n\n{}\nCivil year {}\n{}\nCivil year {}\n{}\n{}\n",
         solstice_year(year),
         months.len(),
         head.concat(),
-        heading(&parts[0]),
+        with_eras(&parts[0]),
         before.concat(),
-        heading(&parts[1]),
+        with_eras(&parts[1]),
         after.concat(),
         courtesy_note(&parts),
     )
@@ -71,15 +71,14 @@ pub fn year(year: u64, months: &[Month]) -> String {
 /// Returns a solstice year with the sixty-names of its two civil years.
 pub fn solstice_year(year: u64) -> String {
     let [before, begun] = civil::parts(year, &[]).map(|part| both(&part.year.name()));
-    let span = civil::span(year);
-    format!("Solstice year {year} ({span}), {before} and {begun}")
+    format!("{year} ({}), {before} and {begun}", civil::span(year))
 }
 
-/// Returns a civil year with its sixty-name and the eras of its months.
-pub fn heading(part: &Part) -> String {
+/// Returns the civil year of some months with its sixty-name and with their eras.
+pub fn with_eras(part: &Part) -> String {
     match part.eras_told(both) {
-        Some(eras) => format!("Civil year {}, {eras}*", civil_year(part.year)),
-        None => format!("Civil year {}", civil_year(part.year)),
+        Some(eras) => format!("{}, {eras}*", civil_year(part.year)),
+        None => civil_year(part.year),
     }
 }
 

@@ -663,7 +663,7 @@ fn more_marks_than_a_line_holds() {
     assert_eq!(
         refused(
             &words.join(" "),
-            "its marks are more than a line of 1,023 bytes holds (refusal 5)"
+            "The sheet is refused: its marks are more than the calendar takes, a line of 1,023 bytes (refusal 5)."
         ),
         5
     );

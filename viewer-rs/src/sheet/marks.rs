@@ -197,8 +197,7 @@ fn unread(text: &str, what: &str) -> String {
 
 /// Returns whether a text is a stem with a branch.
 fn is_pair(what: &str) -> bool {
-    let halves = what.char_indices().map(|(at, _)| what.split_at(at));
+    let mut halves = what.char_indices().map(|(at, _)| what.split_at(at));
     halves
-        .into_iter()
         .any(|(stem, branch)| names::stem_of(stem).is_some() && names::branch_of(branch).is_some())
 }

@@ -4,7 +4,7 @@ use super::marks::Asked;
 use super::{lists, telling, words, By, Candidate, Sheet};
 use crate::civil::{self, CivilYear, Part, LAST_TOLD};
 use crate::names;
-use crate::text::{aligned, both, heading, solstice_year, width};
+use crate::text::{aligned, both, solstice_year, width, with_eras};
 use crate::Month;
 
 /// Lines and columns of a terminal.
@@ -32,33 +32,25 @@ struct Listed {
 
 /// Returns the reply to a sheet as text.
 pub fn written(asked: &Asked, candidates: &[Candidate]) -> String {
-    let sheet = &asked.sheet;
     let listed = match candidates {
-        [first, ..] if first.misread.is_none() => agreeing(sheet, candidates),
-        _ => misread(sheet, candidates),
+        [first, ..] if first.misread.is_none() => agreeing(&asked.sheet, candidates),
+        _ => misread(&asked.sheet, candidates),
     };
-    let Listed {
-        head,
-        years,
-        short,
-        tail,
-    } = listed;
+    let (head, years) = (listed.head, listed.years);
+    let blank = if listed.tail.is_empty() { "" } else { "\n" };
+    let tail = blank.to_string() + &listed.tail;
     let lines = |text: &str| text.lines().count();
     let fit = |count: usize, more: usize| {
-        let all = years
-            .iter()
-            .take(count)
-            .map(|year| lines(year))
-            .sum::<usize>();
+        let all: usize = years.iter().take(count).map(|year| lines(year)).sum();
         all + more + lines(&head) + lines(&tail) <= SCREEN
     };
     if asked.all || years.is_empty() || fit(years.len(), 0) {
         return head + &years.concat() + &tail;
     }
-    let room = if short.is_empty() { 1 } else { MORE };
+    let room = if listed.short.is_empty() { 1 } else { MORE };
     let shown = (1..).take_while(|count| fit(*count, room)).count().max(1);
-    let more = more(years.len() - shown, short.get(shown..).unwrap_or(&[]));
-    head + &years[..shown].concat() + &more + &tail
+    let short = listed.short.get(shown..).unwrap_or(&[]);
+    head + &years[..shown].concat() + &more(years.len() - shown, short) + &tail
 }
 
 /// Returns how many years there are besides those shown, and which, as far as there is room.
@@ -89,53 +81,38 @@ fn agreeing(sheet: &Sheet, candidates: &[Candidate]) -> Listed {
         1 => String::new(),
         _ => wrapped(&words::told_apart(telling::apart(sheet, &years))),
     };
-    let tail = apart + &courtesy(by, &years);
     Listed {
-        head: format!("{}\n{}", title(sheet, &years, years.len()), header(by)),
+        head: title(sheet, &years, years.len()) + "\n" + &header(by),
         years: years.iter().map(|year| block(by, *year)).collect(),
         short: years.iter().map(|year| short(by, *year)).collect(),
-        tail: if tail.is_empty() {
-            tail
-        } else {
-            format!("\n{tail}")
-        },
+        tail: apart + &courtesy(by, &years),
     }
 }
 
 /// Returns the years that agree with all marks but one, as the rows of a table.
 fn misread(sheet: &Sheet, candidates: &[Candidate]) -> Listed {
+    let by = sheet.by;
     let years: Vec<u64> = candidates.iter().map(|candidate| candidate.year).collect();
-    let kind = match sheet.by {
-        By::Place => "Solstice year",
-        By::Month => "Civil year",
-    };
-    let mut rows = vec![["Mark", "Would have to read", kind].map(String::from)];
+    let counted = words::counted_but_one(sheet, years.len());
+    let mut head = title(sheet, &years, 0) + &wrapped(&counted);
+    let mut rows = vec![["Mark", "Would have to read", kind(by)].map(String::from)];
     rows.extend(candidates.iter().filter_map(|candidate| {
         let mark = &sheet.marks[candidate.misread?];
-        let months = lists::months(sheet.by, candidate.year);
-        let year = year_told(sheet.by, candidate.year, &months);
-        let year = year.trim_start_matches(kind).trim_start().to_string();
-        Some([
-            mark.word.clone(),
-            words::would_read(mark, &months, both),
-            year,
-        ])
+        let months = lists::months(by, candidate.year);
+        let would = words::would_read(mark, &months, both);
+        Some([mark.word.clone(), would, named(by, candidate.year, &months)])
     }));
     let mut lines = aligned(&rows);
-    let head = format!("\n{}", lines.remove(0));
-    let tail = courtesy(sheet.by, &years);
+    let columns = lines.remove(0);
+    if !years.is_empty() {
+        head += "\n";
+        head += &columns;
+    }
     Listed {
-        head: title(sheet, &years, 0)
-            + &words::counted_but_one(sheet, years.len())
-            + "\n"
-            + if years.is_empty() { "" } else { &head },
+        head,
         years: lines,
         short: Vec::new(),
-        tail: if tail.is_empty() {
-            tail
-        } else {
-            format!("\n{tail}")
-        },
+        tail: courtesy(by, &years),
     }
 }
 
@@ -167,8 +144,8 @@ fn block(by: By, year: u64) -> String {
         let cells = columns.iter().map(|month| month.as_ref().map(cell));
         line("", cells.map(Option::unwrap_or_default))
     };
-    let year = year_told(by, year, &months);
-    wrapped(&format!("{year}: {}", words::months(by, &months)))
+    let (kind, year) = (kind(by), named(by, year, &months));
+    wrapped(&format!("{kind} {year}: {}", words::months(by, &months)))
         + &cells(|month| month.first.to_string())
         + &cells(|month| names::of_day(month.first.into()).chinese + names::of_length(month).0)
 }
@@ -180,14 +157,22 @@ fn line(first: &str, cells: impl Iterator<Item = String>) -> String {
     format!("{first:5}{line}").trim_end().to_string() + "\n"
 }
 
+/// Returns which year a number is.
+fn kind(by: By) -> &'static str {
+    match by {
+        By::Place => "Solstice year",
+        By::Month => "Civil year",
+    }
+}
+
 /// Returns a year with its names.
-fn year_told(by: By, year: u64, months: &[Month]) -> String {
+fn named(by: By, year: u64, months: &[Month]) -> String {
     match by {
         By::Place => solstice_year(year),
-        By::Month => heading(&Part {
-            year: CivilYear(year),
-            months,
-        }),
+        By::Month => {
+            let year = CivilYear(year);
+            with_eras(&Part { year, months })
+        }
     }
 }
 
