@@ -3,7 +3,7 @@
 
 use super::marks::Asked;
 use super::{lists, telling, words, By, Candidate, Mark, Reading, Sheet, Spot};
-use crate::civil::{self, CivilYear, Part, LAST_TOLD};
+use crate::civil::{self, CivilYear, Part};
 use crate::find::question::MonthAsked;
 use crate::names;
 use crate::page::{both, chinese, document, eras, romanised};
@@ -240,28 +240,25 @@ fn length_shown(days: u64) -> String {
     format!("{} {days}", chinese(names::length(days).0))
 }
 
-/// Returns what the marks mean, and whose the replies are.
+/// Returns what the cells mean, and whose the replies are.
 fn notes(sheet: &Sheet, shown: &[Candidate]) -> Vec<String> {
     let mut legend = "<i class=\"agrees\"></i> agrees with a mark".to_string();
     if shown.iter().any(|each| each.misread.is_some()) {
         legend += " <i class=\"misread\"></i> a mark would be misread";
     }
-    let cell = match sheet.by {
-        By::Place => {
-            "the month’s number, its first day’s sixty-name and running day, and its length"
-        }
-        By::Month => "the sixty-name and running day of the month’s first day, and its length",
+    let (number, whose) = match sheet.by {
+        By::Place => ("its number, ", ""),
+        By::Month => ("", ", of which the civil years are made up here"),
     };
+    let [great, small] = [30, 29].map(|days| {
+        let (chinese, romanised) = names::length(days);
+        both(&words::name(chinese, romanised))
+    });
     let mut notes = vec![format!(
-        "{legend}. Under a {}: {cell}, {} {} 30 days or {} {} 29. The years and their lists are replies of the proved calendar.",
-        match sheet.by { By::Place => "place", By::Month => "month" },
-        chinese("大"),
-        romanised("da"),
-        chinese("小"),
-        romanised("xiao"),
+        "{legend}. Of each month: {number}the sixty-name and the running day of its first day, and its length, {great} \
+         30 days or {small} 29. The lists, and which of them agree, are replies of the proved calendar{whose}."
     )];
-    if sheet.by == By::Month && shown.iter().any(|each| each.year <= LAST_TOLD) {
-        notes.push("* Eras are a courtesy and no part of the calendar's reply.".to_string());
-    }
+    let years: Vec<u64> = shown.iter().map(|each| each.year).collect();
+    notes.extend(words::courtesy(sheet.by, &years).map(String::from));
     notes
 }

@@ -2,7 +2,7 @@
 
 use super::telling::Apart;
 use super::{By, Mark, Reading, Sheet, Spot};
-use crate::civil::CivilYear;
+use crate::civil::{CivilYear, LAST_TOLD};
 use crate::find::part_only;
 use crate::names::{self, Name};
 use crate::text::{number, numbered};
@@ -71,23 +71,26 @@ pub fn read(reading: Reading, shown: Shown) -> String {
         Reading::Name(name) => shown(&names::sixty(name)),
         Reading::Stem(stem) => {
             let Name { chinese, romanised } = names::stem(stem);
-            shown(&name(format!("{chinese}?"), format!("{romanised}?")))
+            shown(&name(&format!("{chinese}?"), &format!("{romanised}?")))
         }
         Reading::Branch(branch) => {
             let Name { chinese, romanised } = names::branch(branch);
-            shown(&name(format!("?{chinese}"), format!("?{romanised}")))
+            shown(&name(&format!("?{chinese}"), &format!("?{romanised}")))
         }
         Reading::Length(length) => {
             let (chinese, romanised) = names::length(length);
-            let name = name(chinese.to_string(), romanised.to_string());
-            format!("{length} days ({})", shown(&name))
+            format!("{length} days ({})", shown(&name(chinese, romanised)))
         }
         Reading::Leap => "leap".to_string(),
     }
 }
 
-fn name(chinese: String, romanised: String) -> Name {
-    Name { chinese, romanised }
+/// Returns a name of two texts.
+pub fn name(chinese: &str, romanised: &str) -> Name {
+    Name {
+        chinese: chinese.to_string(),
+        romanised: romanised.to_string(),
+    }
 }
 
 /// Returns what a mark would have to read in a year's months.
@@ -119,6 +122,12 @@ pub fn cut(by: By, years: &[u64]) -> Vec<String> {
             cut.map(|note| format!("Note: {note}.")).collect()
         }
     }
+}
+
+/// Returns a sentence about eras, where one is told.
+pub fn courtesy(by: By, years: &[u64]) -> Option<&'static str> {
+    let told = by == By::Month && years.iter().any(|year| *year <= LAST_TOLD);
+    told.then_some("* Eras are a courtesy and no part of the calendar's reply.")
 }
 
 /// Returns how many months a year has, and which of them is leap.

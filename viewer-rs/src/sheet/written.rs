@@ -2,7 +2,7 @@
 
 use super::marks::Asked;
 use super::{lists, telling, words, By, Candidate, Sheet};
-use crate::civil::{self, CivilYear, Part, LAST_TOLD};
+use crate::civil::{self, CivilYear, Part};
 use crate::names;
 use crate::text::{aligned, both, solstice_year, width, with_eras};
 use crate::Month;
@@ -184,11 +184,9 @@ fn short(by: By, year: u64) -> String {
     }
 }
 
-/// Returns a sentence about eras, where one is told.
+/// Returns the line about eras, where one is told.
 fn courtesy(by: By, years: &[u64]) -> String {
-    let told = by == By::Month && years.iter().any(|year| *year <= LAST_TOLD);
-    let courtesy = "* Eras are a courtesy and no part of the calendar's reply.\n";
-    if told { courtesy } else { "" }.to_string()
+    words::courtesy(by, years).map_or(String::new(), wrapped)
 }
 
 /// Returns a text in lines of a terminal.
