@@ -289,14 +289,19 @@ fn one_mark_misread() {
 #[test]
 fn the_name_that_tells_years_apart_best() {
     let years = Years::listed();
-    for words in [
-        "0=guisi",
-        "3=30 4=30",
+    let few = [
+        "3=30 4=30 5=30",
         "--civil leap8",
-        "--civil 3=29 4=?chen",
         "--civil 11=jihai",
         "10=leap",
-    ] {
+    ]
+    .map(String::from);
+    let named = (0..60).flat_map(|name| {
+        let name = names::sixty(name).chinese;
+        ["0", "9", "--civil 3", "--civil 12"].map(|spot| format!("{spot}={name}"))
+    });
+    for words in few.into_iter().chain(named) {
+        let words = words.as_str();
         let sheet = line(words);
         let agreeing = years.agreeing(&sheet);
         let best = match telling::apart(&sheet, &agreeing) {
@@ -831,7 +836,7 @@ fn all_years_are_listed_where_all_are_asked_for() {
         };
         let listed: Vec<u64> = (all.lines())
             .filter_map(|line| line.strip_prefix(kind))
-            .map(|rest| rest.split(&[' ', ','][..]).next().unwrap().parse().unwrap())
+            .map(|rest| rest.split([' ', ',']).next().unwrap().parse().unwrap())
             .collect();
         assert_eq!(listed, years.agreeing(&sheet), "{words}");
     }

@@ -75,7 +75,7 @@ fn not_read(why: String) -> Refused {
 
 /// Returns where a mark stands and what is read there.
 fn mark(by: By, word: &str) -> Result<(Spot, Reading), Refused> {
-    let parts = word.split_once(|each| each == '=' || each == '＝');
+    let parts = word.split_once(['=', '＝']);
     let parts = parts.filter(|(spot, what)| !spot.is_empty() && !what.is_empty());
     match (by, parts) {
         (By::Place, Some((place, what))) => Ok((place_in(place)?, reading_in(what)?)),
@@ -136,7 +136,7 @@ fn month_in(text: &str) -> Result<MonthAsked, Refused> {
 /// Returns the month that a text names as a question of `find` does; `l8` is short for `leap8`.
 fn month_named(text: &str) -> Option<MonthAsked> {
     let number = text
-        .strip_prefix(&['l', 'L'][..])
+        .strip_prefix(['l', 'L'])
         .filter(|rest| number_in(rest).is_some());
     match number {
         Some(number) => question::month(&format!("leap{number}")),
