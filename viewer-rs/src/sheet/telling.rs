@@ -1,7 +1,7 @@
 //! Which further mark would tell years apart. Many years have a twin, mostly 124 years on, whose months begin on days of
 //! the same names: these no name tells apart.
 
-use super::{lists, By, Reading, Sheet, Spot};
+use super::{lists, By, Sheet, Spot};
 use crate::civil::CivilYear;
 use crate::find::part_only;
 use crate::find::question::MonthAsked;
@@ -49,8 +49,8 @@ pub fn apart(sheet: &Sheet, years: &[u64]) -> Apart {
     let years: Vec<Listed> = years.iter().map(listed).collect();
     let mut spots = spots(sheet.by);
     spots.retain(|spot| years.iter().all(|year| may_be_read(sheet.by, *spot, year)));
+    // a name that is known already leaves all years
     let best = (spots.iter())
-        .filter(|spot| !is_named(sheet, **spot))
         .map(|spot| left(*spot, &years))
         .filter(|telling| telling.most < years.len())
         .min_by_key(|telling| (telling.sum, telling.most));
@@ -80,13 +80,6 @@ fn spots(by: By) -> Vec<Spot> {
 fn may_be_read(by: By, spot: Spot, (year, months): &Listed) -> bool {
     let cut = by == By::Month && part_only(CivilYear(*year)).is_some();
     cut || spot.of(months).is_some()
-}
-
-/// Returns whether a mark has the whole name at a spot already.
-fn is_named(sheet: &Sheet, spot: Spot) -> bool {
-    let is_name = |reading| matches!(reading, Reading::Name(_));
-    let mut marks = sheet.marks.iter();
-    marks.any(|mark| mark.spot == spot && is_name(mark.reading))
 }
 
 /// Returns what the name at a spot would leave of years.
