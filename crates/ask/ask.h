@@ -23,10 +23,10 @@ struct lengadriu_written {
 
 /*
  * The reply to a line, which has no line end and `line_length` bytes, from the start of `row`, which has `row_length` bytes. The text
- * ends with a newline and not with a zero byte. A question that is refused is answered with such a text too, `refused` and the
- * number; a line of more than 1,023 bytes is none, `refused 5`. A row is too short where it has no room for what the question
- * may need: LENGADRIU_ROW_BYTES are enough for every question, and LENGADRIU_SMALL_ROW_BYTES for all but `years`.
- * Line and row may not overlap and not be NULL, not even where their length is 0.
+ * ends with a newline and not with a zero byte, and the bytes after it keep their contents. A question that is refused is answered with
+ * such a text too, `refused` and the number; a line of more than 1,023 bytes is none, `refused 5`. A row is too short where it
+ * has no room for what the question may need: LENGADRIU_ROW_BYTES are enough for every question, and
+ * LENGADRIU_SMALL_ROW_BYTES for all but `years`. Line and row may not overlap and not be NULL, not even where their length is 0.
  */
 struct lengadriu_written lengadriu_ask(const uint8_t *line, size_t line_length, uint8_t *row, size_t row_length);
 

@@ -278,6 +278,7 @@ fn a_row_that_is_too_short_keeps_its_bytes() {
                 answered = true;
                 assert_eq!(written.bytes, whole.len() as u64);
                 assert!(row.starts_with(whole.as_bytes()), "{line}, {length}");
+                assert_eq!(row[whole.len()..], marked(length)[whole.len()..]);
             } else {
                 assert!(!answered && length < 65_536, "{line}, {length}");
                 assert_eq!(
