@@ -728,8 +728,8 @@ fn a_civil_year_that_is_cut_is_told() {
 fn where_none_agrees_the_misread_mark_is_told() {
     assert_eq!(
         reply("--civil 三月=己亥 閏八月=小 12=xinyou"),
-        "No civil year agrees with the sheet: first day 己亥 jihai in month 3, 29 days (小 xiao) in leap\n\
-         \x20 month 8, first day 辛酉 xinyou in month 12.\n\
+        "No civil year agrees with the sheet: first days 己亥 jihai in month 3, 辛酉 xinyou in month 12, 29\n\
+         \x20 days (小 xiao) in leap month 8.\n\
          If one mark is misread, 1 year agrees with the others.\n\
          \n\
          Mark       Would have to read  Civil year\n\

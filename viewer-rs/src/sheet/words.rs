@@ -34,18 +34,21 @@ pub fn counted_but_one(sheet: &Sheet, count: usize) -> String {
     }
 }
 
-/// Returns the marks of a sheet as they are taken.
+/// Returns the marks of a sheet as they are taken, those of first days before the others.
 pub fn marks(sheet: &Sheet, shown: Shown) -> String {
-    let told = |mark: &Mark| {
-        let read = read(mark.reading, shown);
-        match mark.reading {
-            _ if mark.is_leap_month() => named(mark.spot),
-            Reading::Leap | Reading::Length(_) => format!("{read} {}", at(mark.spot)),
-            _ => format!("first day {read} {}", at(mark.spot)),
-        }
+    let told = |mark: &&Mark| match mark.is_leap_month() {
+        true => named(mark.spot),
+        false => format!("{} {}", read(mark.reading, shown), at(mark.spot)),
     };
-    let told: Vec<String> = sheet.marks.iter().map(told).collect();
-    told.join(", ")
+    let (days, others): (Vec<&Mark>, Vec<&Mark>) = (sheet.marks.iter())
+        .partition(|mark| !matches!(mark.reading, Reading::Length(_) | Reading::Leap));
+    let mut all: Vec<String> = days.iter().chain(&others).map(told).collect();
+    match days.len() {
+        0 => {}
+        1 => all[0].insert_str(0, "first day "),
+        _ => all[0].insert_str(0, "first days "),
+    }
+    all.join(", ")
 }
 
 /// Returns a spot by its name.
