@@ -893,21 +893,23 @@ fn the_command() {
 
 #[test]
 fn pages_have_the_marks_above_the_lists() {
-    for (words, lists, agree, misread) in [
-        ("0=jihai 3=30 10=leap", 1, 3, 0),
-        ("0=guisi", 12, 12, 0),
-        ("0=guisi --all", 17, 17, 0),
-        ("--civil 三月=丁酉 閏八月=大", 1, 2, 0),
-        ("--civil leap8", 12, 12, 0),
-        ("--civil 三月=己亥 閏八月=小 12=xinyou", 1, 2, 1),
+    for (words, marked, lists, agree, misread) in [
+        ("0=jihai 3=30 10=leap", 3, 1, 3, 0),
+        ("0=jihai 0=29 10=leap 10=gui?", 2, 1, 2, 0),
+        ("0=guisi", 1, 12, 12, 0),
+        ("0=guisi --all", 1, 17, 17, 0),
+        ("--civil 三月=丁酉 閏八月=大", 2, 1, 2, 0),
+        ("--civil leap8", 1, 12, 12, 0),
+        ("--civil 三月=己亥 閏八月=小 12=xinyou", 3, 1, 2, 1),
         (
             "--civil 1=wuxu 2=dingmao 3=dingyou 9=癸亥 12=壬辰 leap7",
+            6,
             1,
             5,
             1,
         ),
-        ("0=jihai 3=30 11=leap 1=wuchen 4=丁酉 9=甲子", 1, 5, 1),
-        ("0=guisi 1=jiazi 2=guihai", 0, 0, 0),
+        ("0=jihai 3=30 11=leap 1=wuchen 4=丁酉 9=甲子", 6, 1, 5, 1),
+        ("0=guisi 1=jiazi 2=guihai", 3, 0, 0, 0),
     ] {
         let page = command::reply(&["page", "sheet", words]).unwrap();
         let count = |part: &str| page.matches(part).count();
@@ -916,8 +918,9 @@ fn pages_have_the_marks_above_the_lists() {
         assert_eq!(count("<td class=\"agrees\">"), agree, "{words}");
         assert_eq!(count("<td class=\"misread\">"), misread, "{words}");
         assert_eq!(count("<td"), 13 * (lists + 1), "{words}");
-        let marks = page.matches("<span class=\"mark\">").count();
-        assert_eq!(marks, line(words).marks.len(), "{words}");
+        let row = page.split("<tr class=\"sheet\">").nth(1).unwrap();
+        let row = row.split("</tr>").next().unwrap();
+        assert_eq!(row.matches("<td></td>").count(), 13 - marked, "{words}");
         for part in [
             "http", "<script", "<link", "<img", "url(", "@import", "src=",
         ] {
@@ -925,6 +928,11 @@ fn pages_have_the_marks_above_the_lists() {
         }
         balanced(&page);
     }
+    let two = command::reply(&["page", "sheet", "0=jihai 0=29"]).unwrap();
+    assert!(two.contains(
+        "<td><b class=\"at\">place 0</b><span class=\"zh\" lang=\"zh-Hant\">己亥</span> \
+         <em lang=\"zh-Latn-pinyin\">jihai</em><span class=\"small\"><span class=\"zh\" lang=\"zh-Hant\">小</span> 29</span></td>"
+    ));
     let some = command::reply(&["page", "sheet", "0=guisi"]).unwrap();
     assert!(some.contains("17 solstice years agree with the sheet"));
     assert!(some.contains("<p>And 5 more; ‘--all’ lists them.</p>"));

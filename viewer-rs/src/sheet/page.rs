@@ -7,7 +7,7 @@ use crate::civil::{self, CivilYear, Part};
 use crate::find::question::MonthAsked;
 use crate::names;
 use crate::page::{both, chinese, document, eras, romanised};
-use crate::text::number;
+use crate::text::{number, numbered};
 use crate::Month;
 
 const STYLE: &str = include_str!("page.css");
@@ -91,40 +91,41 @@ fn head(by: By) -> String {
 
 /// Returns the row of the sheet's own marks.
 fn sheet_row(sheet: &Sheet) -> String {
-    let column = |mark: &Mark| match mark.spot {
+    let column = |mark: &&Mark| match mark.spot {
         Spot::Place(place) => place as usize,
         Spot::Month(month) if month.leap => COLUMNS - 1,
         Spot::Month(month) => month.number as usize - 1,
     };
     let cells = (0..COLUMNS).map(|at| {
         let marks = sheet.marks.iter().filter(|mark| column(mark) == at);
-        let marks: String = marks.map(marked).collect();
-        format!("<td>{marks}</td>")
+        format!("<td>{}</td>", marked(&marks.collect::<Vec<_>>()))
     });
     let cells: String = cells.collect();
     format!("<tr class=\"sheet\"><th scope=\"row\">The sheet</th>{cells}</tr>\n")
 }
 
-/// Returns a mark in its cell.
-fn marked(mark: &Mark) -> String {
-    let read = match mark.reading {
-        Reading::Length(length) => small(&length_shown(length)),
-        Reading::Leap => small(&format!("{} leap", chinese("閏"))),
-        reading => words::read(reading, both),
-    };
-    match mark.spot {
-        Spot::Month(month) if month.leap => {
-            let read = if mark.is_leap_month() { "" } else { &read };
-            format!(
-                "<span class=\"mark\"><b class=\"which\">leap {}</b>{read}</span>",
-                month.number
-            )
+/// Returns the marks of a cell, under their spots as far as the column does not say them.
+fn marked(marks: &[&Mark]) -> String {
+    let mut cell = String::new();
+    let mut last = None;
+    for mark in marks {
+        if last != Some(mark.spot) {
+            cell += &match mark.spot {
+                Spot::Month(month) if month.leap => {
+                    format!("<b class=\"which\">leap {}</b>", month.number)
+                }
+                spot => format!("<b class=\"at\">{}</b>", words::named(spot)),
+            };
         }
-        spot => format!(
-            "<span class=\"mark\"><b class=\"at\">{}</b>{read}</span>",
-            words::named(spot)
-        ),
+        last = Some(mark.spot);
+        cell += &match mark.reading {
+            _ if mark.is_leap_month() => String::new(),
+            Reading::Length(length) => small(&length_shown(length)),
+            Reading::Leap => small(&format!("{} leap", chinese("閏"))),
+            reading => words::read(reading, both),
+        };
     }
+    cell
 }
 
 /// Returns the row of a year: its names, and its months in their columns.
@@ -215,20 +216,17 @@ fn cell(sheet: &Sheet, misread: Option<&Mark>, at: usize, month: &Month) -> Stri
 
 /// Returns which month stands in a cell, as far as its column does not say it.
 fn which(by: By, spot: Spot, month: &Month) -> String {
-    let class = if month.leap {
-        "which leap-month"
-    } else {
-        "which"
-    };
-    match by {
-        By::Month if month.leap => format!("<b class=\"{class}\">{}</b>", number(month)),
-        By::Month => format!("<b class=\"at\">{}</b>", words::named(spot)),
-        By::Place => format!(
-            "<b class=\"at\">{}</b><b class=\"{class}\">{}</b>",
-            words::named(spot),
-            number(month)
-        ),
+    let at = format!("<b class=\"at\">{}</b>", words::named(spot));
+    match (by, month.leap) {
+        (By::Month, false) => at,
+        (By::Place, false) => format!("{at}<b class=\"which\">{}</b>", numbered(month)),
+        (By::Month, true) => leap_month(month),
+        (By::Place, true) => at + &leap_month(month),
     }
+}
+
+fn leap_month(month: &Month) -> String {
+    format!("<b class=\"which leap-month\">{}</b>", number(month))
 }
 
 fn small(text: &str) -> String {
