@@ -10,7 +10,7 @@ use crate::text::both;
 
 /// Returns the civil years that a year may be. A sheet is printed before its year, so that an era's name may stand for
 /// the year in which the next began; this is taken where no era of the name has the year.
-pub fn meant(year: &Year) -> Result<Vec<Meant>, Refused> {
+pub(super) fn meant(year: &Year) -> Result<Vec<Meant>, Refused> {
     let (eras, year) = match year {
         Year::Western(year) => {
             let year = CivilYear(*year);
@@ -53,7 +53,7 @@ fn having(eras: &[&'static Era], year: u64, last: fn(&Era) -> u64) -> Vec<Meant>
 }
 
 /// Returns those civil years that have the sixty-name which the question gives.
-pub fn agreeing(meant: Vec<Meant>, name: Option<u64>) -> Result<Vec<Meant>, Refused> {
+pub(super) fn agreeing(meant: Vec<Meant>, name: Option<u64>) -> Result<Vec<Meant>, Refused> {
     let name = match name {
         Some(name) => names::sixty(name),
         None => return Ok(meant),
@@ -72,13 +72,13 @@ pub fn agreeing(meant: Vec<Meant>, name: Option<u64>) -> Result<Vec<Meant>, Refu
 }
 
 /// Returns notes about days of a civil year that lie before or after the era by which it was asked for.
-pub fn era_notes(meant: &Meant, answer: &Answer) -> Vec<String> {
+pub(super) fn era_notes(meant: &Meant, answer: &Answer) -> Vec<String> {
     let era = match meant.era {
         Some(era) => era,
         None => return Vec::new(),
     };
     let days: &[u64] = match answer {
-        Answer::Day(day) => &[*day],
+        Answer::Day(day) => std::slice::from_ref(day),
         Answer::Named { days, .. } => days,
     };
     let mut notes = Vec::new();
@@ -119,7 +119,7 @@ pub fn own_name(question: &Civil, year: CivilYear, name: u64) -> Option<String> 
 }
 
 /// Returns a note about a name that two eras have.
-pub fn twice(meant: &[Meant], misses: &str) -> String {
+pub(super) fn twice(meant: &[Meant], misses: &str) -> String {
     let years: Vec<String> = meant.iter().map(|each| each.year.0.to_string()).collect();
     let era = meant[0].era.map(of_era).unwrap_or_default();
     let told = if misses.is_empty() {
