@@ -10,7 +10,7 @@ use borrow.Author.Tests.{eq-eqb, ne-eqb}
 use lib.ListN.{length}
 use Rattle.measure.specs.Choice.{if_then_else_}
 use Rattle.measure.specs.Reply.{Reply, answer, refused, badLine}
-use Rattle.measure.proofs.Choice.{if-cases, lt-or-ge}
+use Rattle.measure.proofs.Choice.{lt-or-ge, passes-or-fails}
 use Rattle.decimals.specs.Number.{numberOf}
 use Rattle.decimals.specs.declared.Number.the-variants.{Value, Bad}
 use Rattle.words.specs.Text.{_is_}
@@ -29,13 +29,29 @@ use Rattle.sheet_texts.specs.declared.SheetRead.{SheetRead}
 use Rattle.sheet_texts.specs.declared.MarkRead.{MarkRead}
 use Rattle.sheet_texts.specs.declared.MarkRead.the-variants.{Read, Unread}
 
--- a mark takes a byte at least
-pub after-shorter : (s : List ℕ) → 0 < length s → length (afterMark s) < length s
-unfolding afterMark
-after-shorter s h =
-    if-cases (λ (t : List ℕ). length t < length s) (restOf (restOf s)) (restOf (restOf (restOf s))) (partOf s is "leap")
-    (λ _. omega (arith, rest-shorter s h, rest-no-longer (restOf s)))
-    (λ _. omega (arith, rest-shorter s h, rest-no-longer (restOf s), rest-no-longer (restOf (restOf s))))
+-- what follows a mark: it takes a byte at least
+module _ (s : List ℕ) where
+  pub after-leap : (partOf s is "leap") ≡ true → restOf (restOf s) ≡ afterMark s
+  unfolding afterMark
+  after-leap e = simp e
+
+  pub after-number : (partOf s is "leap") ≡ false → restOf (restOf (restOf s)) ≡ afterMark s
+  unfolding afterMark
+  after-number e = simp e
+
+  pub after-shorter : 0 < length s → length (afterMark s) < length s
+  after-shorter h = by (passes-or-fails (partOf s is "leap"))
+    where
+      by : ((partOf s is "leap") ≡ true) ⊎ ((partOf s is "leap") ≡ false) → length (afterMark s) < length s
+      by (inl e) = omega (arith, ap length (after-leap e), rest-shorter s h, rest-no-longer (restOf s))
+      by (inr e) =
+          omega (
+            arith,
+            ap length (after-number e),
+            rest-shorter s h,
+            rest-no-longer (restOf s),
+            rest-no-longer (restOf (restOf s)),
+          )
 
 -- the marks of a text that go on from others
 abbrev pub marksAfter : List Mark → List ℕ → Reply (List Mark)
@@ -124,14 +140,6 @@ module _ (s : List ℕ) where
         → chosen Unread (partOf s) (showing p n) ≡ markOf s
     unfolding markOf
     number-mark n e f = simp (e, placed, f)
-
-  pub after-leap : (partOf s is "leap") ≡ true → restOf (restOf s) ≡ afterMark s
-  unfolding afterMark
-  after-leap e = simp e
-
-  pub after-number : (partOf s is "leap") ≡ false → restOf (restOf (restOf s)) ≡ afterMark s
-  unfolding afterMark
-  after-number e = simp e
 
 -- what a reader hands on
 abbrev asRead : Sheet → Bool → SheetRead
