@@ -1,6 +1,9 @@
 //! What the command writes.
 
+mod pages;
+
 use lengadriu_viewer::{command, months_of, terms};
+use pages::balanced;
 use std::process::{Command, Output};
 
 /// Returns what the command does with some words.
@@ -180,19 +183,4 @@ fn every_page_has_every_month_day_and_term() {
             assert!(!page.contains(part), "{part}");
         }
     }
-}
-
-/// Every tag that is opened is closed in order.
-fn balanced(page: &str) {
-    let mut open = Vec::new();
-    for tag in page.split('<').skip(1) {
-        let tag = tag.split('>').next().unwrap();
-        let name = tag.split(' ').next().unwrap();
-        match name.strip_prefix('/') {
-            Some(name) => assert_eq!(open.pop(), Some(name)),
-            None if ["!DOCTYPE", "meta"].contains(&name) => {}
-            None => open.push(name),
-        }
-    }
-    assert!(open.is_empty());
 }

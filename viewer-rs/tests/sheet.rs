@@ -1,12 +1,15 @@
 //! Torn sheets: handfuls of marks of every solstice and of every civil year, right and wrong, against the second program's
 //! lists; what is read, what is refused, and how the years are told.
 
+mod pages;
+
 use lengadriu_viewer::find::question::MonthAsked;
 use lengadriu_viewer::sheet::marks::read;
 use lengadriu_viewer::sheet::telling::{self, Apart, Telling};
 use lengadriu_viewer::sheet::{self, lists, By, Candidate, Mark, Reading, Sheet, Spot};
 use lengadriu_viewer::text::width;
 use lengadriu_viewer::{command, names};
+use pages::balanced;
 use second::calendar::{Months, Record, LONGEST_LIST};
 use std::collections::{BTreeMap, BTreeSet};
 use std::process::Command;
@@ -937,19 +940,4 @@ fn pages_have_the_marks_above_the_lists() {
     assert!(some.contains("17 solstice years agree with the sheet"));
     assert!(some.contains("<p>And 5 more; ‘--all’ lists them.</p>"));
     assert!(some.contains("<p>Best told apart by the first day's name at place 10: it leaves 8 years at most, 6.4 on average.</p>"));
-}
-
-/// Every tag that is opened is closed in order.
-fn balanced(page: &str) {
-    let mut open = Vec::new();
-    for tag in page.split('<').skip(1) {
-        let tag = tag.split('>').next().unwrap();
-        let name = tag.split(' ').next().unwrap();
-        match name.strip_prefix('/') {
-            Some(name) => assert_eq!(open.pop(), Some(name)),
-            None if ["!DOCTYPE", "meta"].contains(&name) => {}
-            None => open.push(name),
-        }
-    }
-    assert!(open.is_empty());
 }
