@@ -1,5 +1,6 @@
 -- The questions: which words there are, which numbers follow each, and the reply. A question is words and decimal numbers with
--- one blank between them, and whatever is no question is refused.
+-- one blank between them, and whatever is no question is refused. Here are those of up to three numbers; what a torn sheet's marks get
+-- stands in sheet_texts.
 -- Assumes nothing.
 use Prim.Native.Nat.{ℕ}
 use mathlib.Core.List.{List, [], _∷_}

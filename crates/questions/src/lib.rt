@@ -1,4 +1,5 @@
-// From a line of text to the reply that it gets.
+// From a line of text to the reply that it gets, for every question of up to three numbers. A torn sheet's, of any number of marks, is asked
+// apart from these.
 mod counted;
 mod halves;
 mod said;
