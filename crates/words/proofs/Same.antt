@@ -2,13 +2,11 @@
 use Prim.Native.Nat.{ℕ}
 use mathlib.Core.Path.{_≡_, _∙_, refl}
 use mathlib.Core.List.{List, [], _∷_}
-use mathlib.Core.Bool.{Bool, true, false, _&&_, false≢true}
+use mathlib.Core.Bool.{Bool, true, false, false≢true}
 use borrow.Author.Tests.{eqb-true, eq-eqb}
+use lib.Dec.{eqb}
+use Rattle.measure.proofs.Choice.{left-passes, right-passes}
 use Rattle.words.specs.Text.{same}
-
-and-true : (p q : Bool) → (p && q) ≡ true → (p ≡ true) × (q ≡ true)
-and-true true q e = (refl, e)
-and-true false q e = absurd (false≢true e)
 
 pub same-equal : (a b : List ℕ) → same a b ≡ true → a ≡ b
 unfolding same
@@ -16,9 +14,8 @@ same-equal [] [] e = refl
 same-equal [] (y ∷ ys) e = absurd (false≢true e)
 same-equal (x ∷ xs) [] e = absurd (false≢true e)
 same-equal (x ∷ xs) (y ∷ ys) e =
-    let both = and-true _ _ e in
-    let head : x ≡ y = eqb-true x y (both .0) in
-    let tail : xs ≡ ys = same-equal xs ys (both .1) in
+    let head : x ≡ y = eqb-true x y (left-passes (eqb x y) (same xs ys) e) in
+    let tail : xs ≡ ys = same-equal xs ys (right-passes (eqb x y) (same xs ys) e) in
     rw (head, tail)
 
 pub same-itself : (a : List ℕ) → same a a ≡ true
