@@ -6,10 +6,10 @@ use mathlib.Core.List.{List}
 use mathlib.Core.Path.{_≡_, refl, ap}
 use Prim.Native.Nat.{ℕ, _≤_}
 use lib.ListN.{length}
-use Rattle.measure.specs.Choice.{if_then_else_, _<?_, _=?_}
-use Rattle.measure.specs.Reply.{Reply, answer, refused, shortRow, refuseIf}
+use Rattle.rows.specs.Choice.{if_then_else_, _<?_, _=?_}
+use Rattle.rows.specs.Reply.{Reply, answer, refused, shortRow, refuseIf}
 use Rattle.measure.specs.Epoch.{shoushi}
-use Rattle.list_texts.specs.ListText.{yearsRoom}
+use Rattle.replies.specs.ListText.{yearsRoom}
 use Rattle.replies.specs.AnswerText.{answerText, answerRoom, answerReply}
 use Rattle.replies.proofs.AnswerLaws.{answered-whole}
 use Rattle.ask.specs.Written.{writtenTold}

@@ -2,7 +2,7 @@
 -- Assumes nothing.
 use mathlib.Core.Path.{_∙_, sym}
 use denote.Ref.{now}
-use Rattle.measure.proofs.Determined.{OneOutcome}
+use Rattle.rows.proofs.Determined.{OneOutcome}
 use Rattle.ask.proofs.lengadriu_ask.Kinds as ask
 use Rattle.ask.proofs.lengadriu_ask.Reads as ask-reads
 

@@ -1,7 +1,7 @@
 -- What is told of a text that was written: a reply as a struct of two numbers.
 -- Assumes nothing.
 use Prim.Native.Nat.{ℕ}
-use Rattle.measure.specs.Reply.{Reply, answer, refused}
+use Rattle.rows.specs.Reply.{Reply, answer, refused}
 use Rattle.ask.specs.declared.Written.{Written}
 
 -- how many bytes, or why none

@@ -1,9 +1,9 @@
 // What a viewer or a page asks: a line of the desk, for the text of its reply.
-use measure::Answer;
+use rows::Answer;
 ghost use mathlib.Core.Path.{_≡_};
 ghost use lib.ListN.{length};
 ghost use Rattle.measure.specs.Epoch.{shoushi};
-ghost use Rattle.measure.specs.Row.{rowAfter};
+ghost use Rattle.rows.specs.Row.{rowAfter};
 ghost use Rattle.replies.specs.AnswerText.{answerText, answerReply};
 ghost use Rattle.ask.specs.Written.{writtenTold};
 

@@ -5,7 +5,7 @@ use mathlib.Core.Path.{_≡_, sym}
 use Prim.Native.Nat.{ℕ, _+_, _≤_}
 use native.Mathlib.Omega.{arith}
 use Rattle.measure.specs.Units.{lastYear}
-use Rattle.measure.specs.Reply.{answer}
+use Rattle.rows.specs.Reply.{answer}
 use Rattle.measure.specs.Epoch.{Epoch, shoushi}
 use Rattle.month_law.specs.Calendar.{Calendar, head}
 use Rattle.month_law.specs.Lawful.{Lawful}
@@ -17,9 +17,9 @@ use Rattle.month_law.proofs.Days.{length-of}
 use Rattle.month_law.proofs.Demand.{Ends, dates, no-others}
 use Rattle.edition.proofs.Edition.{shoushi-lawful, shoushi-ends}
 use Rattle.months.specs.Month.{MonthOfDay, monthOfDay, dayReply}
-use Rattle.dates.specs.Date.{backReply, hasDate}
+use Rattle.months.specs.Date.{backReply, hasDate}
 use Rattle.months.proofs.DayReply.{day-answered, answered-in}
-use Rattle.dates.proofs.RoundTrip.{day-there-and-back, place-there-and-back}
+use Rattle.months.proofs.RoundTrip.{day-there-and-back, place-there-and-back}
 use Rattle.demand.specs.Demand.{shownOn, firstIn, Demand}
 use Rattle.demand.proofs.Names.{names-run}
 use Rattle.demand.proofs.Listing as listed

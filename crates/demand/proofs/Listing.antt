@@ -18,8 +18,8 @@ use Rattle.month_law.proofs.Lists.{place-listed, listed-place}
 use Rattle.month_law.proofs.Runs.{year-listed, year-of, months-run}
 use Rattle.month_law.proofs.Demand.{Ends}
 use Rattle.months.specs.Month.{kindAt, placed, monthOfDay}
-use Rattle.year_rows.specs.Records.{recordWidth, recordAt, recordOf}
-use Rattle.year_rows.proofs.RecordLaws.{recordBy, by-kind}
+use Rattle.lists.specs.Records.{recordWidth, recordAt, recordOf}
+use Rattle.lists.proofs.RecordLaws.{recordBy, by-kind}
 use Rattle.lists.specs.Lists.{monthsInRun}
 use Rattle.lists.proofs.RunLaws.{length-run, run-ends}
 use Rattle.demand.specs.Demand.{listing, shownOn, firstIn, lengthIn, LiesIn, Standing, StandsOn, recordSaid}

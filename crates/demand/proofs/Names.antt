@@ -4,9 +4,9 @@ use mathlib.Core.Path.{_≡_, refl, ap, _∙_}
 use Prim.Native.Nat.{ℕ, zero, suc, _%_}
 use native.Mathlib.Omega.{arith}
 use borrow.Author.Tests.{eqb-true, eqb-false}
-use Rattle.measure.specs.Choice.{_=?_}
+use Rattle.rows.specs.Choice.{_=?_}
 use Rattle.measure.specs.Days.{sixtyName}
-use Rattle.measure.proofs.Choice.{if-cases}
+use Rattle.rows.proofs.Choice.{if-cases}
 use Rattle.demand.specs.Demand.{nextName, runningName}
 
 next-day : (d : ℕ) → sixtyName (suc d) ≡ nextName (sixtyName d)

@@ -7,13 +7,13 @@ use Prim.Native.Nat.{ℕ, zero, suc, _+_, _*_, _≤_, _<_}
 use native.Mathlib.Omega.{arith}
 use lib.ListN.{length, drop, length-drop}
 use lib.Seq.{drop-append-le, drop-append-add, take-append-le}
-use Rattle.measure.proofs.Choice.{lt-or-ge}
+use Rattle.rows.proofs.Choice.{lt-or-ge}
 use Rattle.month_law.specs.Calendar.{Calendar, head, monthsIn}
 use Rattle.month_law.specs.Lawful.{Lawful}
 use Rattle.month_law.proofs.Rising.{rises-weakly}
 use Rattle.month_law.proofs.Months.{head-rises}
-use Rattle.year_rows.specs.Records.{recordWidth, recordAt, recordsOf}
-use Rattle.year_rows.proofs.RecordLaws.{length-records}
+use Rattle.lists.specs.Records.{recordWidth, recordAt, recordsOf}
+use Rattle.lists.proofs.RecordLaws.{length-records}
 use Rattle.lists.specs.Lists.{runOf, monthsInRun}
 use Rattle.lists.proofs.RunLaws.{length-run, run-ends}
 use Rattle.demand.specs.Demand.{recordOn}

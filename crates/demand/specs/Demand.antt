@@ -7,17 +7,17 @@ use mathlib.Core.Logic.{_⊎_}
 use mathlib.Core.Path.{_≡_}
 use Prim.Native.Nat.{ℕ, zero, suc, _+_, _-_, _*_, _%_, _≤_, _<_}
 use lib.ListN.{length, getD, take, drop}
-use Rattle.measure.specs.Choice.{if_then_else_, _=?_}
-use Rattle.measure.specs.Reply.{answer}
+use Rattle.rows.specs.Choice.{if_then_else_, _=?_}
+use Rattle.rows.specs.Reply.{answer}
 use Rattle.measure.specs.Epoch.{Epoch}
 use Rattle.measure.specs.Days.{sixtyName}
 use Rattle.month_law.specs.Calendar.{Calendar, lengthOf, head, monthsIn}
 use Rattle.month_law.specs.Demand.{JustOne, Date, Dated, EmptyAt}
 use Rattle.edition.specs.Edition.{calendar}
-use Rattle.kinds.specs.Kind.{numberIn, markIn}
+use Rattle.months.specs.Kind.{numberIn, markIn}
 use Rattle.months.specs.Month.{MonthOfDay, dayReply}
-use Rattle.dates.specs.Date.{backReply, hasDate}
-use Rattle.year_rows.specs.Records.{recordWidth, recordAt}
+use Rattle.months.specs.Date.{backReply, hasDate}
+use Rattle.lists.specs.Records.{recordWidth, recordAt}
 use Rattle.lists.specs.Lists.{runOf, monthsInRun}
 
 -- the listing of the years 0 to `last`: their lists laid end to end

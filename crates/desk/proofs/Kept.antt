@@ -7,9 +7,8 @@ use native.Mathlib.Omega.{arith}
 use borrow.Author.Tests.{eq-eqb, ne-eqb}
 use lib.ListN.{length, take, drop, getD, take-append-drop}
 use lib.Seq.{take-suc, length-take-le}
-use Rattle.measure.specs.Choice.{if_then_else_, _=?_}
 use Rattle.frames.specs.LineEnds.{lineEnd}
-use Rattle.measure.specs.Row.{over}
+use Rattle.rows.specs.Row.{over}
 use Rattle.measure.specs.Epoch.{shoushi}
 use Rattle.replies.specs.AnswerText.{answerText}
 use Rattle.desk.specs.Input.{withByte, keptAfter, lastText}

@@ -10,7 +10,7 @@ use borrow.Fn.Kinds.{Dens, resT, endedOf}
 use denote.Ref.{now}
 use denote.Triple.Clauses.{AtExit}
 use lib.ListN.{take}
-use Rattle.measure.proofs.Determined.{OneReply, OneOutcome}
+use Rattle.rows.proofs.Determined.{OneReply, OneOutcome}
 use Rattle.desk.specs.Input.{Left, Told}
 use Rattle.desk.specs.declared.Turn.{Turn}
 use Rattle.desk.specs.declared.Turn.the-variants.{Begun, Ended, CutShort}

@@ -6,7 +6,7 @@ use mathlib.Core.List.{List, [], _∷_, _++_}
 use Prim.Native.Nat.{ℕ, _+_, _≤_, _<_}
 use lib.IntN.{ℤ, pos, negsuc}
 use lib.ListN.{length, take}
-use Rattle.measure.specs.Choice.{if_then_else_, _<?_, _=?_}
+use Rattle.rows.specs.Choice.{if_then_else_, _<?_, _=?_}
 use Rattle.measure.specs.Epoch.{shoushi}
 use Rattle.frames.specs.LineEnds.{lineEnd}
 use Rattle.replies.specs.AnswerText.{answerText}

@@ -7,20 +7,20 @@ use native.Mathlib.Omega.{arith}
 use Rattle.measure.specs.Units.{termStep, lastYear}
 use Rattle.measure.specs.Epoch.{Epoch, shoushi, meanStart}
 use Rattle.measure.specs.Days.{dayOf}
-use Rattle.laws.specs.Law.{taken, law, exact}
-use Rattle.solar.specs.Solar.{fastAt, slowAt, solar, solarTime}
-use Rattle.lunar.specs.Lunar.{lunarMagnitude, lunar, anomaly}
-use Rattle.motions.specs.Motion.{wholeLaw, motionAt, motionInRow, rowOf, motion}
+use Rattle.inequalities.specs.Law.{taken, law, exact}
+use Rattle.inequalities.specs.Solar.{fastAt, slowAt, solar}
+use Rattle.inequalities.specs.Lunar.{lunarMagnitude, lunar}
+use Rattle.inequalities.specs.Motion.{wholeLaw, motionAt, motionInRow, rowOf, motion}
 use Rattle.seasons.specs.Solstice.{solstice}
 use Rattle.seasons.specs.Terms.{term}
-use Rattle.moons.specs.Lunation.{mean}
-use Rattle.moons.specs.TrueMoon.{corrected, correction, correctionOf, moved, trueMoon, firstDay}
+use Rattle.moons.specs.Lunation.{mean, solarTime, anomaly}
+use Rattle.moons.specs.TrueMoon.{corrected, correction, correctionOf, moved, trueMoon}
 use Rattle.moons.proofs.Corrected.{correctionSize}
 use Rattle.month_law.specs.Calendar.{head}
 use Rattle.month_law.specs.Lawful.{Lawful}
 use Rattle.month_law.proofs.Months.{head-unique}
 use Rattle.month_law.proofs.Demand.{Ends}
-use Rattle.edition.specs.Edition.{middleDay, calendar}
+use Rattle.edition.specs.Edition.{middleDay, calendar, firstDay}
 use Rattle.edition.proofs.MonthLength.{lunation-length}
 
 -- the days that the Shoushi's lists begin with and end before, computed

@@ -1,24 +1,19 @@
 -- A month has 29 or 30 days, in every edition whose first mean new moon is late enough that no correction takes a time below 0.
 -- Assumes nothing.
-use mathlib.Core.Path.{_≡_}
 use Prim.Native.Nat.{ℕ, suc, _+_, _*_, _%_, _≤_, _<_}
 use native.Mathlib.Omega.{arith}
-use Rattle.measure.specs.Units.{day, year, month, anomalisticMonth}
-use Rattle.remainders.specs.ExtraDays.{monthDeficit}
+use Rattle.measure.specs.Units.{day, year, month, anomalisticMonth, anomalyAdvance, monthDeficit}
 use Rattle.measure.specs.Epoch.{Epoch, meanStart}
 use Rattle.measure.specs.Days.{dayOf}
 use Rattle.signed.specs.Signed.{Signed}
-use Rattle.signed.proofs.Sizes.{Within}
-use Rattle.limits.specs.Limits.{anomalyAdvance}
-use Rattle.solar.specs.Solar.{solarTime}
-use Rattle.lunar.specs.Lunar.{anomaly}
-use Rattle.moons.specs.Lunation.{mean}
-use Rattle.moons.specs.TrueMoon.{correction, correctionOf, moved, trueMoon, firstDay}
-use Rattle.moons.proofs.Times.{solar-time-lt, anomaly-lt, mean-least}
-use Rattle.moons.proofs.Corrected.{correctionSize, correction-size}
-use Rattle.edition.proofs.Signed.{gap}
-use Rattle.edition.proofs.SolarStep.{mostSolarAdvance}
-use Rattle.edition.proofs.CorrectionStep.{correction-step}
+use Rattle.signed.proofs.Sizes.{Within, gap}
+use Rattle.moons.specs.Lunation.{mean, solarTime, anomaly}
+use Rattle.moons.specs.TrueMoon.{correction, moved}
+use Rattle.edition.specs.Edition.{firstDay}
+use Rattle.moons.proofs.Times.{solar-time-lt, anomaly-lt, mean-least, mean-next, solar-next, anomaly-next}
+use Rattle.moons.proofs.Corrected.{correctionSize, correction-size, moved-is, true-is, true-near}
+use Rattle.inequalities.proofs.SolarStep.{mostSolarAdvance}
+use Rattle.moons.proofs.CorrectionStep.{correction-step}
 
 -- from one day to another it is 29 days or 30
 pub record MonthLength (first next : ℕ) : Type 0 where
@@ -32,8 +27,8 @@ by-step : (t : ℕ) (c c' : Signed)
     → Within correctionSize c'
     → gap c c' ≤ monthDeficit
     → MonthLength (dayOf (moved t c)) (dayOf (moved (t + month) c'))
-unfolding moved gap
-by-step t c c' h small small' step = omega arith
+unfolding gap
+by-step t c c' h small small' step = omega (arith, moved-is t c, moved-is (t + month) c')
 
 -- at any solar time and anomaly, for any rule of the year that moves the solar time by no more than a month and a day
 pub month-length : (t s e a : ℕ) → correctionSize ≤ t → s < year → e ≤ mostSolarAdvance → a < anomalisticMonth
@@ -45,25 +40,11 @@ month-length t s e a h hs he ha =
     by-step t (correction s a) (correction s' a') h (correction-size s a) (correction-size s' a')
     (correction-step s e a hs he ha)
 
--- the quarter of the lunation after l
-module _ (e : Epoch) (l q : ℕ) where
-  mean-next : mean e (suc l) q ≡ mean e l q + month
-  unfolding mean
-  mean-next = omega arith
-
-  solar-next : solarTime e (suc l) q ≡ (solarTime e l q + month) % year
-  unfolding solarTime
-  solar-next = omega arith
-
-  anomaly-next : anomaly e (suc l) q ≡ (anomaly e l q + anomalyAdvance) % anomalisticMonth
-  unfolding anomaly
-  anomaly-next = omega arith
-
 -- so month l has 29 or 30 days
 pub lunation-length : (e : Epoch) → correctionSize ≤ meanStart e → (l : ℕ) → MonthLength (firstDay e l) (firstDay e (suc l))
-unfolding firstDay trueMoon correctionOf
+unfolding firstDay
 lunation-length e h l =
-    rw (mean-next e l 0, solar-next e l 0, anomaly-next e l 0)
+    rw (true-is e l 0, true-is e (suc l) 0, mean-next e l 0, solar-next e l 0, anomaly-next e l 0)
     (month-length (mean e l 0) (solarTime e l 0) month (anomaly e l 0) (omega (arith, mean-least e l 0)) (solar-time-lt e l 0)
     (omega arith) (anomaly-lt e l 0))
 
@@ -73,8 +54,7 @@ pub record Near (e : Epoch) (l : ℕ) : Type 0 where
   pub not-after : firstDay e l * day ≤ mean e l 0 + correctionSize
 
 pub near : (e : Epoch) → correctionSize ≤ meanStart e → (l : ℕ) → Near e l
-unfolding firstDay trueMoon correctionOf moved
+unfolding firstDay
 near e h l =
-    let small : Within correctionSize (correction (solarTime e l 0) (anomaly e l 0)) =
-    correction-size (solarTime e l 0) (anomaly e l 0) in
-    record { not-before = omega (arith, mean-least e l 0); not-after = omega (arith, mean-least e l 0) }
+    let close = true-near e h l 0 in
+    record { not-before = omega arith; not-after = omega arith }

@@ -1,29 +1,28 @@
 -- The paper's examples that are proved together: one table, under one statement, computed from the definitions.
 -- Assumes nothing.
-use mathlib.Core.Bool.{true}
 use mathlib.Core.Path.{_≡_, refl}
 use Prim.Native.Nat.{_+_, _*_}
-use Rattle.measure.specs.Reply.{answer}
+use Rattle.rows.specs.Reply.{answer}
 use Rattle.measure.specs.Units.{day}
 use Rattle.measure.specs.Epoch.{shoushi}
 use Rattle.measure.specs.Days.{dayOf, sixtyName}
 use Rattle.remainders.specs.Hours.{doubleHour, ke, hourReply}
 use Rattle.remainders.specs.ExtraDays.{daysOn, none, extraDay, extraReply}
 use Rattle.signed.specs.Signed.{aheadBy, behindBy}
-use Rattle.laws.specs.Law.{taken, law, exact}
-use Rattle.limits.specs.Limits.{quick, tardy}
-use Rattle.solar.specs.Solar.{fast, slow, fastAt, slowAt, solarAt, solar, solarTime}
-use Rattle.lunar.specs.Lunar.{lunarMagnitude, lunarAt, lunar, anomaly}
-use Rattle.motions.specs.Motion.{wholeLaw, motionAt, motionInRow, rowOf, motion}
+use Rattle.inequalities.specs.Law.{taken, law, exact}
+use Rattle.inequalities.specs.Limits.{quick, tardy}
+use Rattle.inequalities.specs.Solar.{fast, slow, fastAt, slowAt, solarAt, solar}
+use Rattle.inequalities.specs.Lunar.{lunarMagnitude, lunarAt, lunar}
+use Rattle.inequalities.specs.Motion.{wholeLaw, motionAt, motionInRow, rowOf, motion}
 use Rattle.seasons.specs.Solstice.{solstice}
 use Rattle.seasons.specs.Terms.{term}
-use Rattle.moons.specs.Lunation.{mean}
-use Rattle.moons.specs.TrueMoon.{corrected, correction, correctionOf, moved, trueMoon, firstDay}
+use Rattle.moons.specs.Lunation.{mean, solarTime, anomaly}
+use Rattle.moons.specs.TrueMoon.{corrected, correction, correctionOf, moved, trueMoon}
 use Rattle.month_law.specs.Steps.{seek}
 use Rattle.month_law.specs.Count.{count}
-use Rattle.month_law.specs.Calendar.{nameOf, lengthOf, monthOf, head, monthsIn, held, leapAt, numberAt}
-use Rattle.edition.specs.Edition.{middleDay, calendar}
-use Rattle.kinds.specs.Kind.{leap}
+use Rattle.month_law.specs.Calendar.{numberOfRank, lengthOf, monthOf, head, monthsIn, held, leapAt, numberAt}
+use Rattle.edition.specs.Edition.{middleDay, calendar, firstDay}
+use Rattle.months.specs.Kind.{leap}
 use Rattle.months.specs.Month.{kindAt}
 
 pub record Examples : Type 0 where
@@ -55,7 +54,7 @@ pub record Examples : Type 0 where
   pub hour : hourReply 99_999_999 ≡ answer (11, 8)
 
 pub examples : Examples
-unfolding solstice term mean solar solarTime fastAt slowAt law taken lunar anomaly lunarMagnitude motion motionInRow rowOf motionAt wholeLaw exact correctionOf correction corrected moved trueMoon firstDay middleDay seek count nameOf monthOf head held leapAt numberAt kindAt extraDay extraReply doubleHour ke hourReply
+unfolding solstice term mean solar solarTime fastAt slowAt law taken lunar anomaly lunarMagnitude motion motionInRow rowOf motionAt wholeLaw exact correctionOf correction corrected moved trueMoon firstDay middleDay seek count numberOfRank monthOf head held leapAt numberAt kindAt extraDay extraReply doubleHour ke hourReply
 examples =
     record {
       year-0 = (refl, refl);

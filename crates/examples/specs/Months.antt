@@ -6,32 +6,32 @@ use mathlib.Core.Path.{_≡_, refl}
 use Prim.Native.Nat.{ℕ}
 use Prim.Native.String.{String}
 use lib.ListN.{take, drop}
-use Rattle.measure.specs.Reply.{answer, refused}
+use Rattle.rows.specs.Reply.{answer, refused}
 use Rattle.measure.specs.Epoch.{shoushi}
-use Rattle.laws.specs.Law.{taken, law, exact}
-use Rattle.solar.specs.Solar.{fastAt, slowAt, solar, solarTime}
-use Rattle.lunar.specs.Lunar.{lunarMagnitude, lunar, anomaly}
-use Rattle.motions.specs.Motion.{wholeLaw, motionAt, motionInRow, rowOf, motion}
+use Rattle.inequalities.specs.Law.{taken, law, exact}
+use Rattle.inequalities.specs.Solar.{fastAt, slowAt, solar}
+use Rattle.inequalities.specs.Lunar.{lunarMagnitude, lunar}
+use Rattle.inequalities.specs.Motion.{wholeLaw, motionAt, motionInRow, rowOf, motion}
 use Rattle.seasons.specs.Solstice.{solstice}
 use Rattle.seasons.specs.Terms.{term}
-use Rattle.moons.specs.Lunation.{mean}
-use Rattle.moons.specs.TrueMoon.{corrected, correction, correctionOf, moved, trueMoon, firstDay}
+use Rattle.moons.specs.Lunation.{mean, solarTime, anomaly}
+use Rattle.moons.specs.TrueMoon.{corrected, correction, correctionOf, moved, trueMoon}
 use Rattle.month_law.specs.Steps.{seek}
 use Rattle.month_law.specs.Count.{count}
-use Rattle.month_law.specs.Calendar.{nameOf, monthOf, head, monthsIn, yearOf, held, leapAt, numberAt}
-use Rattle.edition.specs.Edition.{middleDay, calendar}
+use Rattle.month_law.specs.Calendar.{numberOfRank, monthOf, head, monthsIn, yearOf, held, leapAt, numberAt}
+use Rattle.edition.specs.Edition.{middleDay, calendar, firstDay}
 use Rattle.months.specs.Head.{headReply}
-use Rattle.kinds.specs.Kind.{ordinary, leap}
+use Rattle.months.specs.Kind.{ordinary, leap}
 use Rattle.months.specs.Month.{kindAt, placed, monthOfDay, dayReply}
-use Rattle.dates.specs.Date.{dayAt, backReply}
-use Rattle.year_rows.specs.Records.{recordAt, recordsOf}
+use Rattle.months.specs.Date.{dayAt, backReply}
+use Rattle.lists.specs.Records.{recordAt, recordsOf}
 use Rattle.lists.specs.Lists.{runOf, monthsInRun, runAsked, listReply, runReply}
 use Rattle.records.specs.MonthRecords.{inRecords, over, rowAfter}
 use Rattle.frames.specs.Digits.{digitByte, digitsOf, digitOf, spelled}
 use Rattle.frames.specs.DayLine.{dayAsked}
 use Rattle.frames.specs.MonthLine.{monthLine, fieldsIn, readFields, refusalLine, lineOf}
 use Rattle.lines.specs.Line.{lineReply, replyLine, lastLine, outputFrom, output}
-use Rattle.record_bytes.specs.Bytes.{lowFirst, bytesOf}
+use Rattle.viewer.specs.Bytes.{lowFirst, bytesOf}
 use Rattle.viewer.specs.Room.{roomIn}
 use Rattle.viewer.specs.Told.{dayTold, countTold}
 use Rattle.words.specs.Ascii.{bytesOf as ascii}
@@ -120,7 +120,7 @@ pub record Months : Type 0 where
   bytes : (bytesOf (365_239 ∷ 30 ∷ []) ≡ 0xB7 ∷ 0x92 ∷ 0x05 ∷ 0x00 ∷ 0x1E ∷ 0x00 ∷ 0x00 ∷ 0x00 ∷ []) × (roomIn told ≡ 2)
 
 pub months : Months
-unfolding asked month-line told list-0 list-5 list-6 solstice term taken law exact fastAt slowAt solar solarTime lunarMagnitude lunar anomaly wholeLaw motionAt motionInRow rowOf motion mean corrected correction correctionOf moved trueMoon firstDay seek count nameOf monthOf head yearOf held leapAt numberAt middleDay headReply kindAt placed monthOfDay dayAt dayReply backReply recordAt recordsOf inRecords over runOf monthsInRun listReply runAsked runReply digitByte digitsOf digitOf spelled dayAsked monthLine fieldsIn readFields refusalLine lineOf lineReply replyLine lastLine outputFrom output lowFirst bytesOf roomIn
+unfolding asked month-line told list-0 list-5 list-6 solstice term taken law exact fastAt slowAt solar solarTime lunarMagnitude lunar anomaly wholeLaw motionAt motionInRow rowOf motion mean corrected correction correctionOf moved trueMoon firstDay seek count numberOfRank monthOf head yearOf held leapAt numberAt middleDay headReply kindAt placed monthOfDay dayAt dayReply backReply recordAt recordsOf inRecords over runOf monthsInRun listReply runAsked runReply digitByte digitsOf digitOf spelled dayAsked monthLine fieldsIn readFields refusalLine lineOf lineReply replyLine lastLine outputFrom output lowFirst bytesOf roomIn
 months =
     record {
       heads = (refl, refl, refl, refl);
@@ -143,7 +143,7 @@ months =
 
 -- day 365,268 accepted, by these figures: computed whole it would take too long
 last-day : dayReply shoushi 365_268 ≡ answer (record { kind = ordinary 10; year = 999; place = 11; day = 30; first = 365_239; length = 30 })
-unfolding count nameOf leapAt numberAt headReply kindAt placed monthOfDay dayReply
+unfolding count numberOfRank leapAt numberAt headReply kindAt placed monthOfDay dayReply
 last-day =
     let h : head (calendar shoushi) 999 ≡ 12_356 = cc (months .heads .0) in
     simp (months .last .0, months .last .1, months .last .2, h, months .heads .2, months .heads .3)

@@ -4,22 +4,22 @@
 use mathlib.Core.List.{List, [], _∷_, _++_}
 use mathlib.Core.Path.{_≡_, refl}
 use Prim.Native.Nat.{ℕ, _+_, _*_}
-use Rattle.measure.specs.Reply.{answer, refused}
-use Rattle.measure.specs.Row.{listed, over, rowAfter}
+use Rattle.rows.specs.Reply.{answer, refused}
+use Rattle.rows.specs.Row.{listed, over, rowAfter}
 use Rattle.measure.specs.Units.{day}
 use Rattle.measure.specs.Epoch.{shoushi}
 use Rattle.measure.specs.Days.{sixtyName, stem, branch}
 use Rattle.remainders.specs.Hours.{doubleHour, ke, hourReply}
 use Rattle.remainders.specs.ExtraDays.{daysOn, none, extraDay, extraReply, vanishingDay, vanishingReply}
 use Rattle.signed.specs.Signed.{aheadBy, behindBy}
-use Rattle.laws.specs.Law.{taken, law, exact}
-use Rattle.limits.specs.Limits.{quick, tardy}
-use Rattle.solar.specs.Solar.{slow, fast, fastAt, slowAt, solar, solarTime, solarAtReply}
-use Rattle.lunar.specs.Lunar.{lunarMagnitude, lunar, anomaly, lunarAtReply}
-use Rattle.motions.specs.Motion.{wholeLaw, motionAt, motionInRow, rowOf, motion, motionAtReply}
+use Rattle.inequalities.specs.Law.{taken, law, exact}
+use Rattle.inequalities.specs.Limits.{quick, tardy}
+use Rattle.inequalities.specs.Solar.{slow, fast, fastAt, slowAt, solar, solarAtReply}
+use Rattle.inequalities.specs.Lunar.{lunarMagnitude, lunar, lunarAtReply}
+use Rattle.inequalities.specs.Motion.{wholeLaw, motionAt, motionInRow, rowOf, motion, motionAtReply}
 use Rattle.seasons.specs.Solstice.{solstice, solsticeReply}
 use Rattle.seasons.specs.Terms.{term, termReply, termList, termsReply, pentad, pentadReply, earth, earthReply}
-use Rattle.moons.specs.Lunation.{mean, meanReply}
+use Rattle.moons.specs.Lunation.{mean, meanReply, solarTime, anomaly}
 use Rattle.moons.specs.TrueMoon.{corrected, correction, correctionOf, moved, trueMoon, solarReply, lunarReply, motionReply, correctionReply, trueReply}
 
 -- year 5's terms, and a row with room for two numbers more
@@ -45,7 +45,7 @@ record Others : Type 0 where
   earths : (earthReply shoushi 5 2 ≡ answer (1_908 * day + 66_568_750)) × (earthReply shoushi 5 14 ≡ answer (2_091 * day + 28_693_750))
       × (earthReply shoushi 5 20 ≡ answer (2_182 * day + 59_756_250))
   -- a number past the terms keeps its contents, and a refusal writes nothing
-  rows : (rowAfter (termsReply 0 1) (termList shoushi 0) (7 ∷ []) ≡ 7 ∷ []) × (over (1 ∷ 2 ∷ []) (7 ∷ 8 ∷ 9 ∷ []) ≡ 1 ∷ 2 ∷ 9 ∷ [])
+  rows : (rowAfter (termsReply 0 1) (termList shoushi 0) (7 ∷ []) ≡ 7 ∷ []) × (over {A = ℕ} (1 ∷ 2 ∷ []) (7 ∷ 8 ∷ 9 ∷ []) ≡ 1 ∷ 2 ∷ 9 ∷ [])
       × (termList shoushi 5 ≡ terms-5)
       × (rowAfter (termsReply 5 26) (termList shoushi 5) row-of-26 ≡ terms-5 ++ (25 ∷ 26 ∷ []))
   hours : (hourReply 0 ≡ answer (0, 0)) × (hourReply 8_333_333 ≡ answer (0, 8)) × (hourReply 8_333_334 ≡ answer (1, 0))

@@ -4,11 +4,11 @@ use mathlib.Core.Bool.{Bool, true, _&&_}
 use mathlib.Core.List.{List, [], _∷_}
 use Prim.Native.Nat.{ℕ, _*_, _/_, _%_}
 use lib.Dec.{T}
-use Rattle.measure.specs.Choice.{_=?_}
+use Rattle.rows.specs.Choice.{_=?_}
 use Rattle.measure.specs.Units.{day}
-use Rattle.laws.specs.Law.{lawA, lawB, taken, law, exact}
-use Rattle.lunar.specs.Lunar.{lunarMagnitude}
-use Rattle.motions.specs.Motion.{wholeLaw}
+use Rattle.inequalities.specs.Law.{lawA, lawB, taken, law, exact}
+use Rattle.inequalities.specs.Lunar.{lunarMagnitude}
+use Rattle.inequalities.specs.Motion.{wholeLaw}
 
 -- every row of a table passes
 every : {A : Type 0} → (A → Bool) → List A → Bool

@@ -4,39 +4,38 @@
 use mathlib.Core.Bool.{true, false}
 use mathlib.Core.List.{List, [], _∷_}
 use mathlib.Core.Path.{_≡_, refl}
-use Prim.Native.Nat.{ℕ}
 use Prim.Native.String.{String}
-use Rattle.measure.specs.Reply.{Reply, answer, refused}
+use Rattle.rows.specs.Reply.{Reply, answer, refused}
 use Rattle.measure.specs.Epoch.{shoushi}
-use Rattle.laws.specs.Law.{taken as lawTaken, law, exact}
-use Rattle.solar.specs.Solar.{fastAt, slowAt, solar, solarTime}
-use Rattle.lunar.specs.Lunar.{lunarMagnitude, lunar, anomaly}
-use Rattle.motions.specs.Motion.{wholeLaw, motionAt, motionInRow, rowOf, motion}
+use Rattle.inequalities.specs.Law.{taken as lawTaken, law, exact}
+use Rattle.inequalities.specs.Solar.{fastAt, slowAt, solar}
+use Rattle.inequalities.specs.Lunar.{lunarMagnitude, lunar}
+use Rattle.inequalities.specs.Motion.{wholeLaw, motionAt, motionInRow, rowOf, motion}
 use Rattle.seasons.specs.Solstice.{solstice}
 use Rattle.seasons.specs.Terms.{term}
-use Rattle.moons.specs.Lunation.{mean}
-use Rattle.moons.specs.TrueMoon.{corrected, correction, correctionOf, moved, trueMoon, firstDay}
+use Rattle.moons.specs.Lunation.{mean, solarTime, anomaly}
+use Rattle.moons.specs.TrueMoon.{corrected, correction, correctionOf, moved, trueMoon}
 use Rattle.month_law.specs.Steps.{seek}
 use Rattle.month_law.specs.Count.{count}
 use Rattle.month_law.specs.Calendar.{monthOf, head, held, leapAt}
-use Rattle.edition.specs.Edition.{middleDay, calendar}
+use Rattle.edition.specs.Edition.{middleDay, calendar, firstDay}
 use Rattle.bytes.specs.Bytes.{indexOf, indexAfter}
-use Rattle.decimals.specs.Number.{digits, value, isNumber, numberOf}
+use Rattle.words.specs.Number.{digits, value, isNumber, numberOf}
 use Rattle.words.specs.Ascii.{bytesOf}
 use Rattle.words.specs.Text.{same}
 use Rattle.words.specs.Line.{wordOf, afterWord}
 use Rattle.words.specs.Choice.{chosen}
 use Rattle.words.specs.Numbers.{endOf, partOf, restOf, numbersOf}
 use Rattle.texts.specs.Text.{decimalIn, decimal, piece, taken, filled}
-use Rattle.line_texts.specs.LineText.{blankHoles, numberHoles, refusalText, numbersText}
+use Rattle.replies.specs.LineText.{blankHoles, numberHoles, refusalText, numbersText}
 use Rattle.sheets.specs.Marks.{marked, shownAt, agrees, agreesAll, passing, badMark, anyBad, sheetReply}
 use Rattle.sheets.specs.declared.Mark.{Mark}
 use Rattle.sheets.specs.declared.Shown.the-variants.{Name, Stem, Branch, Length, Leap}
-use Rattle.sheet_texts.specs.MarkWords.{showing, markOf, afterMark, marksWithin, marksIn}
-use Rattle.sheet_texts.specs.SheetText.{yearsText, foundText, marksText, sheetText}
+use Rattle.questions.specs.MarkWords.{showing, markOf, afterMark, marksWithin, marksIn}
+use Rattle.replies.specs.ListText.{listText}
 use Rattle.questions.specs.Question.{alone, replyTo}
 use Rattle.replies.specs.ReplyText.{replyText}
-use Rattle.replies.specs.AnswerText.{asksSheet, answerText}
+use Rattle.replies.specs.AnswerText.{answerText}
 
 -- the first days of year 0 are 35, 64 and 94; its month at place 10 begins with day 329 and is leap, that before it is not
 year-0 :
@@ -83,9 +82,9 @@ line says reply = answerText shoushi (bytesOf line) ≡ bytesOf reply
 -- a mark that no month has, and a line that is no marks, which is told first
 refusals : ("sheet name 0 60" says "refused 2\n") × ("sheet leap 10 length 0 31" says "refused 2\n") × ("sheet leap 13 leap" says "refused 5\n")
     × ("sheets" says "refused 5\n")
-unfolding indexOf indexAfter digits value isNumber numberOf endOf partOf restOf same chosen showing markOf afterMark marksWithin marksIn numbersOf wordOf afterWord badMark anyBad sheetReply yearsText foundText marksText sheetText refusalText numbersText numberHoles blankHoles filled piece taken decimal decimalIn asksSheet answerText replyTo replyText alone
+unfolding indexOf indexAfter digits value isNumber numberOf endOf partOf restOf same chosen showing markOf afterMark marksWithin marksIn numbersOf wordOf afterWord badMark anyBad sheetReply listText refusalText numbersText numberHoles blankHoles filled piece taken decimal decimalIn answerText replyTo replyText alone
 refusals = (refl, refl, refl, refl)
 
-years : (yearsText (0 ∷ 93 ∷ 310 ∷ []) ≡ bytesOf "0 93 310\n") × (yearsText (999 ∷ []) ≡ bytesOf "999\n") × (yearsText [] ≡ bytesOf "none\n")
-unfolding yearsText numbersText numberHoles blankHoles filled piece taken decimal decimalIn
+years : (listText (0 ∷ 93 ∷ 310 ∷ []) ≡ bytesOf "0 93 310\n") × (listText (999 ∷ []) ≡ bytesOf "999\n") × (listText [] ≡ bytesOf "none\n")
+unfolding listText numbersText numberHoles blankHoles filled piece taken decimal decimalIn
 years = (refl, refl, refl)

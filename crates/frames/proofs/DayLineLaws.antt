@@ -6,8 +6,8 @@ use mathlib.Core.List.{List}
 use Prim.Native.Nat.{ℕ, _^_, _<_}
 use borrow.Author.Tests.{eq-eqb, ne-eqb}
 use lib.ListN.{length}
-use Rattle.measure.specs.Choice.{if_then_else_, _=?_}
-use Rattle.measure.specs.Reply.{answer, refused, badLine}
+use Rattle.rows.specs.Choice.{if_then_else_, _=?_}
+use Rattle.rows.specs.Reply.{answer, refused, badLine}
 use Rattle.frames.specs.Digits.{digitsOf, numberOf}
 use Rattle.frames.specs.DayLine.{dayAsked}
 use Rattle.frames.proofs.DigitLaws.{length-digits, number-back, spelled-only}

@@ -8,7 +8,7 @@ use native.Mathlib.Numerals.{add-one}
 use native.Mathlib.Omega.{arith}
 use lib.ListN.{length, getD, drop, length-drop}
 use lib.Seq.{drop-cons}
-use Rattle.measure.specs.Choice.{if_then_else_, _=?_}
+use Rattle.rows.specs.Choice.{if_then_else_, _=?_}
 use Rattle.frames.specs.LineEnds.{lineEnd, lineLength, restAfter}
 
 -- one byte more of a line

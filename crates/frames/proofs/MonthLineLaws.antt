@@ -3,19 +3,19 @@
 -- Assumes nothing.
 use mathlib.Core.Bool.{Bool, true, false}
 use mathlib.Core.Path.{_≡_, _∙_, refl, sym, ap}
-use mathlib.Core.List.{List, [], _∷_, _++_, append-assoc}
-use Prim.Native.Nat.{ℕ, _+_, _*_, _/_, _%_, _^_, _≤_, _<_}
-use native.Mathlib.Nat.{pow-suc, one-le-pow, mul-add-div-right, mul-add-mod-self-right, div-eq-of-lt, mod-eq-of-lt, mod-lt, div-add-mod', lt-div-mul-add}
+use mathlib.Core.List.{List, _++_}
+use Prim.Native.Nat.{ℕ, _+_, _*_, _/_, _%_, _^_, _<_}
+use native.Mathlib.Nat.{one-le-pow, mul-add-div-right, mul-add-mod-self-right, div-eq-of-lt, mod-eq-of-lt}
 use native.Mathlib.Omega.{arith}
 use borrow.Author.Tests.{eq-eqb, eqb-true}
 use lib.Dec.{lit<}
 use lib.ListN.{length, length-append}
-use Rattle.measure.specs.Choice.{if_then_else_, _=?_}
-use Rattle.measure.specs.Reply.{Reply, answer, refused, badLine}
+use Rattle.rows.specs.Choice.{if_then_else_, _=?_}
+use Rattle.rows.specs.Reply.{Reply, answer, refused, badLine}
 use Rattle.months.specs.Month.{MonthOfDay}
 use Rattle.frames.specs.Digits.{digitsOf, spelled, numberOf}
 use Rattle.frames.specs.MonthLine.{Fields, shown, monthLine, monthDigits, fieldsIn, fieldsOf, readFields, Fits, refusalLine, lineOf}
-use Rattle.frames.proofs.DigitLaws.{length-digits, spelled-append, digits-read, number-back, digits-split, digits-last, digits-back, number-small, spelled-only}
+use Rattle.frames.proofs.DigitLaws.{length-digits, spelled-append, digits-read, number-back, digits-split, digits-last, digits-back}
 
 -- the fields as one number; p is 16 ^ w
 abbrev pub packed : ℕ → Fields → ℕ

@@ -5,7 +5,7 @@ use contract.Lifetimes.{Lfts}
 use borrow.Fn.Kinds.{Dens, resT, endedOf}
 use denote.Ref.{now}
 use denote.Triple.Clauses.{AtExit}
-use Rattle.measure.proofs.Determined.{OneReply, OneOutcome, one-answer}
+use Rattle.rows.proofs.Determined.{OneReply, OneOutcome, one-answer}
 use Rattle.frames.proofs.line_len.Kinds as line-len
 use Rattle.frames.proofs.line_len.Reads as line-len-reads
 use Rattle.frames.proofs.rest.Kinds as rest

@@ -3,8 +3,8 @@
 use mathlib.Core.List.{List}
 use Prim.Native.Nat.{ℕ}
 use lib.ListN.{length}
-use Rattle.measure.specs.Choice.{if_then_else_, _=?_}
-use Rattle.measure.specs.Reply.{Reply, refused, badLine}
+use Rattle.rows.specs.Choice.{if_then_else_, _=?_}
+use Rattle.rows.specs.Reply.{Reply, refused, badLine}
 use Rattle.frames.specs.Digits.{numberOf}
 
 -- how many digits a day has in a line

@@ -3,8 +3,8 @@
 use mathlib.Core.Bool.{_&&_}
 use mathlib.Core.List.{List, [], _∷_, _++_}
 use Prim.Native.Nat.{ℕ, zero, suc, _+_, _-_, _*_, _/_, _%_}
-use Rattle.measure.specs.Choice.{if_then_else_, _≤?_, _<?_}
-use Rattle.measure.specs.Reply.{Reply, answer, refused, badLine}
+use Rattle.rows.specs.Choice.{if_then_else_, _≤?_, _<?_}
+use Rattle.rows.specs.Reply.{Reply, answer, refused, badLine}
 use Rattle.frames.specs.declared.Digit.{Digit as DigitCase}
 use Rattle.frames.specs.declared.Digit.the-variants.{Worth, Nothing}
 

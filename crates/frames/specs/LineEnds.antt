@@ -3,7 +3,7 @@
 use mathlib.Core.List.{List, [], _∷_}
 use Prim.Native.Nat.{ℕ, suc, _+_}
 use lib.ListN.{drop}
-use Rattle.measure.specs.Choice.{if_then_else_, _=?_}
+use Rattle.rows.specs.Choice.{if_then_else_, _=?_}
 
 -- a line ends at this byte, or at the end of the input
 abbrev pub lineEnd : ℕ

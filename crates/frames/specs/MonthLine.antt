@@ -3,9 +3,9 @@
 use mathlib.Core.List.{List, [], _∷_, _++_}
 use Prim.Native.Nat.{ℕ, _+_, _/_, _%_, _^_, _<_}
 use lib.ListN.{length}
-use Rattle.measure.specs.Choice.{if_then_else_, _=?_}
-use Rattle.measure.specs.Reply.{Reply, answer, refused, badLine}
-use Rattle.kinds.specs.Kind.{numberIn, markIn}
+use Rattle.rows.specs.Choice.{if_then_else_, _=?_}
+use Rattle.rows.specs.Reply.{Reply, answer, refused, badLine}
+use Rattle.months.specs.Kind.{numberIn, markIn}
 use Rattle.months.specs.Month.{MonthOfDay}
 use Rattle.frames.specs.LineEnds.{lineEnd}
 use Rattle.frames.specs.Digits.{digitsOf, numberOf}

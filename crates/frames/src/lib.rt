@@ -1,16 +1,16 @@
 // Hexadecimal frames, one a line: where a line ends, digits both ways by their number, the line that asks for a day, and the line of a
 // reply.
-use kinds::leap_mark;
-use kinds::number_in;
-use measure::Answer;
-use measure::BAD_LINE;
 use months::Month;
+use months::kinds::leap_mark;
+use months::kinds::month_number;
+use rows::Answer;
+use rows::BAD_LINE;
 ghost use mathlib.Core.Path.{_≡_};
 ghost use mathlib.Core.List.{[], _∷_, _++_};
 ghost use Prim.Native.Nat.{_+_, _^_, _≤_, _<_};
 ghost use lib.ListN.{length};
-ghost use Rattle.measure.specs.Reply.{answerSaid};
-ghost use Rattle.measure.specs.Row.{over};
+ghost use Rattle.rows.specs.Reply.{answerSaid};
+ghost use Rattle.rows.specs.Row.{over};
 ghost use Rattle.months.specs.Month.{monthSaid};
 ghost use Rattle.frames.specs.LineEnds.{lineEnd, lineLength, restAfter};
 ghost use Rattle.frames.specs.Digits.{digitByte, digitsOf, digitOf, digitSaid, numberOf};
@@ -65,7 +65,7 @@ pub fn put_month(m: Month, w: usize, out: &mut [u8]) -> usize
 {
     let kind = m.kind;
     put_digits(m.year, 3, out);
-    put_digits(number_in(kind), 1, &mut out[3..]);
+    put_digits(month_number(kind), 1, &mut out[3..]);
     put_digits(leap_mark(kind), 1, &mut out[4..]);
     put_digits(m.first, w, &mut out[5..]);
     let end = 5 + w;

@@ -1,2 +1,4 @@
 pub mod LineLaws
+pub mod BlockLaws
+pub mod Kept
 pub mod Unique

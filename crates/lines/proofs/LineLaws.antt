@@ -11,12 +11,12 @@ use borrow.Author.Tests.{eqb-true, eqb-false, le-ltb}
 use borrow.Rule.Slice.PartMut.{putMid}
 use lib.ListN.{length, take, drop, replicate, length-append}
 use lib.Seq.{length-take-le}
-use Rattle.measure.specs.Choice.{if_then_else_, _=?_}
-use Rattle.measure.specs.Reply.{Reply, answer, refused, noDay, badLine}
-use Rattle.measure.specs.Row.{over}
+use Rattle.rows.specs.Choice.{if_then_else_, _=?_}
+use Rattle.rows.specs.Reply.{Reply, answer, refused, noDay, badLine}
+use Rattle.rows.specs.Row.{over}
 use Rattle.measure.specs.Epoch.{Epoch, shoushi}
-use Rattle.measure.proofs.Choice.{passes-or-fails}
-use Rattle.measure.proofs.Row.{more-written}
+use Rattle.rows.proofs.Choice.{passes-or-fails}
+use Rattle.rows.proofs.Row.{more-written}
 use Rattle.months.specs.Month.{MonthOfDay, dayReply}
 use Rattle.months.proofs.DayReply.{day-cases}
 use Rattle.frames.specs.LineEnds.{lineEnd, lineLength, restAfter}

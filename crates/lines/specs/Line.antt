@@ -3,8 +3,8 @@
 use mathlib.Core.List.{List, [], _∷_, _++_}
 use Prim.Native.Nat.{ℕ, _*_}
 use lib.ListN.{length}
-use Rattle.measure.specs.Choice.{if_then_else_, _<?_, _=?_}
-use Rattle.measure.specs.Reply.{Reply, answer, refused, shortRow, refuseIf}
+use Rattle.rows.specs.Choice.{if_then_else_, _<?_, _=?_}
+use Rattle.rows.specs.Reply.{Reply, answer, refused, shortRow, refuseIf}
 use Rattle.measure.specs.Epoch.{Epoch}
 use Rattle.months.specs.Month.{MonthOfDay, dayReply}
 use Rattle.frames.specs.LineEnds.{lineEnd}

@@ -1,20 +1,22 @@
 // The replies to hexadecimal lines: a day in and a month out.
+pub mod blocks;
+
 use frames::DAY_DIGITS;
 use frames::day_asked;
 use frames::line_len;
 use frames::put_month;
 use frames::put_refusal;
 use frames::rest;
-use measure::Answer;
-use measure::BAD_LINE;
-use measure::NO_DAY;
-use measure::SHORT_ROW;
-use months::Reply;
+use months::MonthAnswer;
+use rows::Answer;
+use rows::BAD_LINE;
+use rows::NO_DAY;
+use rows::SHORT_ROW;
 ghost use mathlib.Core.Path.{_≡_};
 ghost use Prim.Native.Nat.{_*_, _≤_};
 ghost use lib.ListN.{length};
-ghost use Rattle.measure.specs.Reply.{answerSaid};
-ghost use Rattle.measure.specs.Row.{over, rowAfter};
+ghost use Rattle.rows.specs.Reply.{answerSaid};
+ghost use Rattle.rows.specs.Row.{over, rowAfter};
 ghost use Rattle.measure.specs.Epoch.{shoushi};
 ghost use Rattle.lines.specs.Line.{replyLine, output, replyRoom, outputReply};
 
@@ -58,7 +60,7 @@ fn put_reply(line: &[u8], out: &mut [u8]) -> usize
     let Answer::Number(day) = day_asked(line) else {
         return put_refusal(BAD_LINE, out);
     };
-    let Reply::Month(month) = months::month_of(day) else {
+    let MonthAnswer::Month(month) = months::month_of(day) else {
         return put_refusal(NO_DAY, out);
     };
     put_month(month, DAY_DIGITS, out)

@@ -6,13 +6,13 @@ use Prim.Native.Nat.{ℕ, suc, _+_, _-_, _*_, _≤_, _<_}
 use native.Mathlib.Nat.{add-zero, zero-add}
 use native.Mathlib.Omega.{arith}
 use borrow.Author.Tests.{eq-eqb, ne-eqb, lt-ltb, le-ltb}
-use Rattle.measure.specs.Reply.{Reply, answer, refused, noYear, shortRow, answerSaid}
+use Rattle.rows.specs.Reply.{Reply, answer, refused, noYear, shortRow, answerSaid}
 use Rattle.measure.specs.Units.{lastYear}
 use Rattle.measure.specs.Epoch.{Epoch}
-use Rattle.measure.specs.declared.Answer.{Answer}
-use Rattle.measure.proofs.Choice.{lt-or-ge}
+use Rattle.rows.specs.declared.Answer.{Answer}
+use Rattle.rows.proofs.Choice.{lt-or-ge}
 use Rattle.month_law.specs.Calendar.{Calendar, monthsIn}
-use Rattle.year_rows.specs.Records.{yearRoom, recordsOf}
+use Rattle.lists.specs.Records.{yearRoom, recordsOf}
 use Rattle.lists.specs.Lists.{runOf, monthsInRun, runAsked, listReply, runReply}
 
 -- what a reply says, once its case is known

@@ -1,3 +1,5 @@
+pub mod RecordLaws
+pub mod YearList
 pub mod RunLaws
 pub mod Asked
 pub mod RunList

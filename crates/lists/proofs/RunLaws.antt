@@ -11,8 +11,8 @@ use Rattle.month_law.specs.Calendar.{Calendar, head, monthsIn}
 use Rattle.month_law.specs.Lawful.{Lawful}
 use Rattle.month_law.proofs.Months.{head-rises}
 use Rattle.month_law.proofs.Lists.{months-in-most}
-use Rattle.year_rows.specs.Records.{recordWidth, yearRoom, recordsOf}
-use Rattle.year_rows.proofs.RecordLaws.{length-records}
+use Rattle.lists.specs.Records.{recordWidth, yearRoom, recordsOf}
+use Rattle.lists.proofs.RecordLaws.{length-records}
 use Rattle.lists.specs.Lists.{runOf, monthsInRun}
 
 module _ (c : Calendar) where

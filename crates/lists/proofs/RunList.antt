@@ -6,13 +6,13 @@ use Prim.Native.Nat.{ℕ, suc, _+_, _-_, _*_, _/_, _≤_, _<_}
 use native.Mathlib.Nat.{add-zero}
 use native.Mathlib.Omega.{arith}
 use lib.ListN.{length}
-use Rattle.measure.specs.Row.{over}
-use Rattle.measure.proofs.Row.{restFrom, withRest, grow}
+use Rattle.rows.specs.Row.{over}
+use Rattle.rows.proofs.Row.{restFrom, withRest, grow}
 use Rattle.month_law.specs.Calendar.{Calendar, head, monthsIn}
 use Rattle.month_law.specs.Lawful.{Lawful}
 use Rattle.month_law.proofs.Lists.{months-in-most}
 use Rattle.months.specs.Span.{spanOf}
-use Rattle.year_rows.specs.Records.{recordWidth, yearRoom, recordsOf}
+use Rattle.lists.specs.Records.{recordWidth, yearRoom, recordsOf}
 use Rattle.lists.specs.Lists.{runOf, monthsInRun}
 use Rattle.months.specs.declared.Span.{Span}
 use Rattle.months.proofs.Spans.{months-between}

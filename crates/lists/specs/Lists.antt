@@ -2,13 +2,13 @@
 -- Assumes nothing.
 use mathlib.Core.List.{List, [], _++_}
 use Prim.Native.Nat.{ℕ, zero, suc, _+_, _-_, _*_}
-use Rattle.measure.specs.Choice.{_<?_, _=?_}
-use Rattle.measure.specs.Reply.{Reply, answer, noYear, shortRow, refuseIf}
+use Rattle.rows.specs.Choice.{_<?_, _=?_}
+use Rattle.rows.specs.Reply.{Reply, answer, noYear, shortRow, refuseIf}
 use Rattle.measure.specs.Units.{lastYear}
 use Rattle.measure.specs.Epoch.{Epoch}
 use Rattle.month_law.specs.Calendar.{Calendar, monthsIn}
 use Rattle.edition.specs.Edition.{calendar}
-use Rattle.year_rows.specs.Records.{yearRoom, recordsOf}
+use Rattle.lists.specs.Records.{yearRoom, recordsOf}
 
 module _ (c : Calendar) where
   -- the lists of k years from n on, each from the place where the one before it ended

@@ -1,21 +1,23 @@
 // A year's list and a run of years, as month records in a lent row of numbers.
-use measure::Answer;
+pub mod year_rows;
+
+use crate::year_rows::RECORD_WIDTH;
+use crate::year_rows::write_year;
 use measure::LAST_YEAR;
-use measure::NO_YEAR;
-use measure::SHORT_ROW;
 use months::head_span;
-use year_rows::RECORD_WIDTH;
-use year_rows::write_year;
+use rows::Answer;
+use rows::NO_YEAR;
+use rows::SHORT_ROW;
 ghost use mathlib.Core.Path.{_≡_};
 ghost use Prim.Native.Nat.{suc, _+_, _*_, _/_, _≤_};
 ghost use lib.ListN.{length};
-ghost use Rattle.measure.specs.Reply.{answer, answerSaid};
-ghost use Rattle.measure.specs.Row.{over, rowAfter};
+ghost use Rattle.rows.specs.Reply.{answer, answerSaid};
+ghost use Rattle.rows.specs.Row.{over, rowAfter};
 ghost use Rattle.measure.specs.Units.{lastYear};
 ghost use Rattle.measure.specs.Epoch.{shoushi};
 ghost use Rattle.month_law.specs.Calendar.{monthsIn};
 ghost use Rattle.edition.specs.Edition.{calendar};
-ghost use Rattle.year_rows.specs.Records.{recordWidth, yearRoom, recordsOf};
+ghost use Rattle.lists.specs.Records.{recordWidth, yearRoom, recordsOf};
 ghost use Rattle.lists.specs.Lists.{runOf, monthsInRun, runAsked, listReply, runReply};
 
 // How many records a row needs for each year.

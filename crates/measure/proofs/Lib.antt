@@ -1,5 +1,2 @@
-pub mod Choice
 pub mod Product
-pub mod Determined
-pub mod Row
 pub mod Unique

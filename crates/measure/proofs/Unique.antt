@@ -1,7 +1,7 @@
 -- Each contract determines its reply: the questions', and that of the product for the crates above.
 -- Assumes nothing.
 use mathlib.Core.Path.{_∙_, sym}
-use Rattle.measure.proofs.Determined.{OneReply}
+use Rattle.rows.proofs.Determined.{OneReply}
 use Rattle.measure.proofs.day_of.Kinds as day-of
 use Rattle.measure.proofs.day_of.Reads as day-of-reads
 use Rattle.measure.proofs.remainder_of.Kinds as remainder-of

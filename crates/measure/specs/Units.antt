@@ -2,7 +2,7 @@
 -- of 10⁻⁸ degree. Beside a constant stands where source 000 prints it.
 -- Assumes nothing.
 use mathlib.Core.Path.{_≡_, refl}
-use Prim.Native.Nat.{ℕ, _+_, _*_}
+use Prim.Native.Nat.{ℕ, _+_, _*_, _-_}
 
 -- 000:166. A limit of the lunar inequality is counted in as many parts
 abbrev pub day : ℕ
@@ -50,6 +50,14 @@ anomalisticMonth = 2_755_460_000
 abbrev pub anomalisticHalf : ℕ
 anomalisticHalf = 1_377_730_000
 
+-- 000:884: how far the anomaly moves from one month to the next
+abbrev pub anomalyAdvance : ℕ
+anomalyAdvance = month - anomalisticMonth
+
+-- 000:200: a month is so much under 30 days
+abbrev pub monthDeficit : ℕ
+monthDeficit = 46_940_700
+
 -- years are counted from 0 to this one
 abbrev pub lastYear : ℕ
 lastYear = 999
@@ -62,5 +70,6 @@ solar-identities : (year ≡ 365 * day + 2_425 * fen) × (year ≡ 2 * halfYear)
     × (termStep ≡ 5 * earthStep)
 solar-identities = (refl, refl, refl, refl, refl)
 
-lunar-identities : (month ≡ 295_305 * fen + 93 * miao) × (month ≡ 4 * quarterStep) × (anomalisticMonth ≡ 2 * anomalisticHalf)
-lunar-identities = (refl, refl, refl)
+lunar-identities : (month ≡ 295_305 * fen + 93 * miao) × (month ≡ 4 * quarterStep) × (30 * day ≡ month + monthDeficit)
+    × (anomalisticMonth ≡ 2 * anomalisticHalf)
+lunar-identities = (refl, refl, refl, refl)

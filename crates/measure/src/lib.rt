@@ -41,23 +41,6 @@ pub const ANOMALY_EPOCH: u64 = 1_319_040_000;
 
 pub const LAST_YEAR: u64 = 999;
 
-// Refusals, by number.
-pub const NO_YEAR: u64 = 1;
-
-pub const OUTSIDE: u64 = 2;
-
-pub const NO_DAY: u64 = 3;
-
-pub const SHORT_ROW: u64 = 4;
-
-pub const BAD_LINE: u64 = 5;
-
-// A number that was asked for, or a refusal's number.
-pub enum Answer {
-    Number(u64),
-    Refused(u64),
-}
-
 // The day of a running time.
 pub fn day_of(time: u64) -> u64
     ensures { λ r. ⌜ r ≡ dayOf time ⌝ }

@@ -5,7 +5,7 @@ use mathlib.Core.Logic.{⊎-elim}
 use mathlib.Core.Path.{_≡_, refl, ap}
 use Prim.Native.Nat.{ℕ, zero, suc, _+_, _≤_, _<_}
 use native.Mathlib.Omega.{arith}
-use Rattle.measure.proofs.Choice.{passes-or-fails}
+use Rattle.rows.proofs.Choice.{passes-or-fails}
 use Rattle.month_law.specs.Count.{oneIf, count}
 use Rattle.month_law.proofs.Rising.{never-falls}
 

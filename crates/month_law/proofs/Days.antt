@@ -5,7 +5,7 @@ use mathlib.Core.Logic.{_⊎_, inl, inr, ⊎-elim}
 use mathlib.Core.Path.{_≡_, ap, subst, sym}
 use Prim.Native.Nat.{ℕ, _+_, _-_, _≤_, _<_}
 use native.Mathlib.Omega.{arith}
-use Rattle.measure.proofs.Choice.{lt-or-ge}
+use Rattle.rows.proofs.Choice.{lt-or-ge}
 use Rattle.month_law.specs.Calendar.{Calendar, lengthOf, monthOf, head, yearOf}
 use Rattle.month_law.specs.Lawful.{Lawful}
 use Rattle.month_law.specs.Demand.{JustOne, Date, Dated}

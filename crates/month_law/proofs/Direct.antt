@@ -4,9 +4,9 @@
 use mathlib.Core.Path.{_≡_, ap, _∙_}
 use Prim.Native.Nat.{ℕ, suc, _+_, _-_, _*_, _≤_, _<_}
 use native.Mathlib.Omega.{arith}
-use Rattle.measure.specs.Choice.{if_then_else_, _≤?_, _<?_}
-use Rattle.measure.proofs.Choice.{if-le, if-lt}
-use Rattle.month_law.specs.Calendar.{Calendar, nameOf, head, monthsIn, leapAt, numberAt}
+use Rattle.rows.specs.Choice.{if_then_else_, _≤?_, _<?_}
+use Rattle.rows.proofs.Choice.{if-le, if-lt}
+use Rattle.month_law.specs.Calendar.{Calendar, numberOfRank, head, monthsIn, leapAt, numberAt}
 use Rattle.month_law.specs.Lawful.{Lawful}
 use Rattle.month_law.proofs.Rising.{order-back}
 use Rattle.month_law.proofs.Count.{count-rises}
@@ -47,8 +47,8 @@ module _ (c : Calendar) (ok : Lawful c) where
       ))
 
   -- the number of the month at place p
-  pub number-direct : (n p : ℕ) → p < monthsIn c n → numberAt c n p ≡ nameOf (rankByTerm c n p)
-  number-direct n p h = number-rank c n p ∙ ap nameOf (rank-by-term n p h)
+  pub number-direct : (n p : ℕ) → p < monthsIn c n → numberAt c n p ≡ numberOfRank (rankByTerm c n p)
+  number-direct n p h = number-rank c n p ∙ ap numberOfRank (rank-by-term n p h)
 
   -- and it is leap if the middle term of its rank lies before it
   pub leap-direct : (n p : ℕ) → p < monthsIn c n

@@ -8,8 +8,8 @@ use Prim.Native.Nat.{ℕ, suc, _+_, _-_, _*_, _≤_}
 use native.Mathlib.Nat.{add-sub-of-le}
 use native.Mathlib.Omega.{arith}
 use borrow.Author.Tests.{le-leb, lt-ltb, leb-true, ltb-true}
-use Rattle.measure.specs.Choice.{_≤?_, _<?_}
-use Rattle.measure.proofs.Choice.{passes-or-fails, both-pass, left-passes, right-passes}
+use Rattle.rows.specs.Choice.{_≤?_, _<?_}
+use Rattle.rows.proofs.Choice.{passes-or-fails, both-pass, left-passes, right-passes}
 use Rattle.month_law.specs.Calendar.{Calendar, holds, held}
 use Rattle.month_law.specs.Lawful.{Lawful}
 use Rattle.month_law.proofs.Count.{none-passes, all-fail, one-counted}

@@ -8,8 +8,8 @@ use Prim.Native.Nat.{ℕ, zero, suc, _+_, _-_, _*_, _≤_, _<_}
 use native.Mathlib.Nat.{add-zero, add-suc, add-sub-of-le}
 use native.Mathlib.Omega.{arith}
 use borrow.Author.Tests.{eq-eqb, ne-eqb}
-use Rattle.measure.specs.Choice.{_=?_}
-use Rattle.measure.proofs.Choice.{lt-or-ge, passes-or-fails}
+use Rattle.rows.specs.Choice.{_=?_}
+use Rattle.rows.proofs.Choice.{lt-or-ge, passes-or-fails}
 use Rattle.month_law.specs.Count.{count}
 use Rattle.month_law.specs.Calendar.{Calendar, head, monthsIn, held, leapAt}
 use Rattle.month_law.specs.Lawful.{Lawful}

@@ -8,10 +8,10 @@ use mathlib.Core.Path.{_≡_, refl, ap, sym, _∙_}
 use Prim.Native.Nat.{ℕ, zero, suc, _+_, _-_, _*_, _≤_, _<_}
 use native.Mathlib.Nat.{add-suc}
 use native.Mathlib.Omega.{arith}
-use Rattle.measure.specs.Choice.{if_then_else_}
-use Rattle.measure.proofs.Choice.{passes-or-fails}
+use Rattle.rows.specs.Choice.{if_then_else_}
+use Rattle.rows.proofs.Choice.{passes-or-fails}
 use Rattle.month_law.specs.Count.{oneIf, count}
-use Rattle.month_law.specs.Calendar.{Calendar, nameOf, head, monthsIn, leapAt, numberAt}
+use Rattle.month_law.specs.Calendar.{Calendar, numberOfRank, head, monthsIn, leapAt, numberAt}
 use Rattle.month_law.specs.Lawful.{Lawful}
 use Rattle.month_law.proofs.Count.{count-suc}
 use Rattle.month_law.proofs.Months.{Holds}
@@ -23,7 +23,7 @@ module _ (c : Calendar) where
   abbrev pub rankAt : ℕ → ℕ → ℕ
   rankAt n p = p - count (leapAt c n) (suc p)
 
-  pub number-rank : (n p : ℕ) → numberAt c n p ≡ nameOf (rankAt n p)
+  pub number-rank : (n p : ℕ) → numberAt c n p ≡ numberOfRank (rankAt n p)
   unfolding numberAt
   number-rank n p = refl
 
@@ -31,7 +31,7 @@ module _ (c : Calendar) where
   pub leap-repeats : (n p : ℕ) → leapAt c n (suc p) ≡ true → numberAt c n (suc p) ≡ numberAt c n p
   leap-repeats n p e =
       let same : rankAt n (suc p) ≡ rankAt n p = omega (arith, count-suc (leapAt c n) (suc p), ap oneIf e) in
-      number-rank n (suc p) ∙ ap nameOf same ∙ sym (number-rank n p)
+      number-rank n (suc p) ∙ ap numberOfRank same ∙ sym (number-rank n p)
 
   -- the numbers of the ordinary months among the first k of the list of year n, in order
   unfoldable pub ordinaryNumbers : ℕ → ℕ → List ℕ
@@ -41,7 +41,7 @@ module _ (c : Calendar) where
 -- the numbers of the first k ranks
 names : ℕ → List ℕ
 names zero = []
-names (suc k) = names k ++ (nameOf k ∷ [])
+names (suc k) = names k ++ (numberOfRank k ∷ [])
 
 module _ (c : Calendar) (ok : Lawful c) (n : ℕ) where
   -- the last middle term of the month at place p is that of its rank
@@ -60,13 +60,13 @@ module _ (c : Calendar) (ok : Lawful c) (n : ℕ) where
   rank-term p h = omega (arith, rank-sum p h, list-to-year c ok n (head c n + p) (place-listed c ok n p h))
 
   -- so the number is that of the last middle term, with no year and no place
-  pub number-by-term : (p : ℕ) → p < monthsIn c n → numberAt c n p ≡ nameOf (lastTerm c (head c n + p))
-  unfolding nameOf
+  pub number-by-term : (p : ℕ) → p < monthsIn c n → numberAt c n p ≡ numberOfRank (lastTerm c (head c n + p))
+  unfolding numberOfRank
   number-by-term p h = omega (arith, number-rank c n p, rank-term p h)
 
   -- and a month that holds middle term j has the number of j
-  pub number-of-held : (p j : ℕ) → p < monthsIn c n → Holds c (head c n + p) j → numberAt c n p ≡ nameOf j
-  number-of-held p j h g = number-by-term p h ∙ ap nameOf (sym (held-is-last c ok (head c n + p) j g))
+  pub number-of-held : (p j : ℕ) → p < monthsIn c n → Holds c (head c n + p) j → numberAt c n p ≡ numberOfRank j
+  number-of-held p j h g = number-by-term p h ∙ ap numberOfRank (sym (held-is-last c ok (head c n + p) j g))
 
   -- the ordinary months among the first k have the first numbers in order
   abbrev InOrder : ℕ → Type 0
@@ -108,7 +108,7 @@ module _ (c : Calendar) (ok : Lawful c) (n : ℕ) where
 
   -- those of the whole list are 11, 12, 1 .. 10, each once
   pub ordinary-months : ordinaryNumbers c n (monthsIn c n) ≡ 11 ∷ 12 ∷ 1 ∷ 2 ∷ 3 ∷ 4 ∷ 5 ∷ 6 ∷ 7 ∷ 8 ∷ 9 ∷ 10 ∷ []
-  unfolding names nameOf
+  unfolding names numberOfRank
   ordinary-months =
       let twelve : monthsIn c n - count (leapAt c n) (monthsIn c n) ≡ 12 = omega (arith, leaps-in c ok n) in
       in-order (monthsIn c n) (omega arith) ∙ rw twelve

@@ -5,7 +5,7 @@ use mathlib.Core.Path.{_≡_, ap}
 use Prim.Native.Nat.{ℕ, zero, suc, _+_, _≤_, _<_}
 use native.Mathlib.Nat.{le-of-suc-le-suc, lt-of-not-le}
 use native.Mathlib.Omega.{arith}
-use Rattle.measure.proofs.Choice.{lt-or-ge, if-lt}
+use Rattle.rows.proofs.Choice.{lt-or-ge, if-lt}
 use Rattle.month_law.specs.Steps.{seek}
 
 -- x is at lo or later, and before hi

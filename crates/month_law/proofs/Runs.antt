@@ -6,8 +6,8 @@ use mathlib.Core.Path.{_≡_, ap, ap₂, sym, _∙_}
 use Prim.Native.Nat.{ℕ, zero, suc, _+_, _-_, _*_, _/_, _≤_}
 use native.Mathlib.Nat.{add-zero, add-suc, add-sub-of-le}
 use native.Mathlib.Omega.{arith}
-use Rattle.measure.specs.Row.{listed}
-use Rattle.measure.proofs.Row.{listed-append}
+use Rattle.rows.specs.Row.{listed}
+use Rattle.rows.proofs.Row.{listed-append}
 use Rattle.month_law.specs.Count.{count}
 use Rattle.month_law.specs.Calendar.{Calendar, head, monthsIn, yearOf, leapAt}
 use Rattle.month_law.specs.Lawful.{Lawful}

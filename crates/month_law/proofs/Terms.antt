@@ -8,8 +8,8 @@ use Prim.Native.Nat.{ℕ, suc, _+_, _-_, _*_, _≤_, _<_}
 use native.Mathlib.Nat.{lt-of-not-le}
 use native.Mathlib.Omega.{arith}
 use borrow.Author.Tests.{lt-ltb, le-ltb, ltb-true, ltb-false}
-use Rattle.measure.specs.Choice.{_<?_}
-use Rattle.measure.proofs.Choice.{lt-or-ge, passes-or-fails}
+use Rattle.rows.specs.Choice.{_<?_}
+use Rattle.rows.proofs.Choice.{lt-or-ge, passes-or-fails}
 use Rattle.month_law.specs.Steps.{seek}
 use Rattle.month_law.specs.Count.{oneIf}
 use Rattle.month_law.specs.Calendar.{Calendar, head}

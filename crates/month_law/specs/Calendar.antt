@@ -3,7 +3,7 @@
 -- Assumes nothing.
 use mathlib.Core.Bool.{Bool, _&&_}
 use Prim.Native.Nat.{ℕ, suc, _+_, _-_, _*_, _/_, _%_}
-use Rattle.measure.specs.Choice.{_≤?_, _<?_, _=?_}
+use Rattle.rows.specs.Choice.{_≤?_, _<?_, _=?_}
 use Rattle.month_law.specs.Steps.{seek}
 use Rattle.month_law.specs.Count.{oneIf, count}
 
@@ -14,8 +14,8 @@ pub record Calendar : Type 0 where
   pub mid : ℕ → ℕ
 
 -- the number of the ordinary month of rank t among the twelve: 11, 12, 1 .. 10
-unfoldable pub nameOf : ℕ → ℕ
-nameOf t = (t + 10) % 12 + 1
+unfoldable pub numberOfRank : ℕ → ℕ
+numberOfRank t = (t + 10) % 12 + 1
 
 module _ (c : Calendar) where
   -- month l runs from its first day to the day before that of l + 1
@@ -54,7 +54,7 @@ module _ (c : Calendar) where
 
   -- and repeats the number before it: a leap month does not count in the rank
   unfoldable pub numberAt : ℕ → ℕ → ℕ
-  numberAt n p = nameOf (p - count (leapAt n) (suc p))
+  numberAt n p = numberOfRank (p - count (leapAt n) (suc p))
 
   -- its mark in a record
   abbrev pub leapMark : ℕ → ℕ → ℕ

@@ -2,7 +2,7 @@
 -- Assumes nothing.
 use mathlib.Core.Bool.{Bool}
 use Prim.Native.Nat.{ℕ, zero, suc, _+_}
-use Rattle.measure.specs.Choice.{if_then_else_}
+use Rattle.rows.specs.Choice.{if_then_else_}
 
 abbrev pub oneIf : Bool → ℕ
 oneIf b = if b then 1 else 0

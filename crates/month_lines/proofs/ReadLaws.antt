@@ -8,14 +8,14 @@ use Prim.Native.Nat.{ℕ, _+_, _≤_}
 use native.Mathlib.Omega.{arith}
 use lib.ListN.{length, take, drop}
 use lib.Seq.{take-add}
-use Rattle.measure.specs.Choice.{if_then_else_, _=?_}
-use Rattle.measure.specs.Row.{over}
+use Rattle.rows.specs.Choice.{if_then_else_, _=?_}
+use Rattle.rows.specs.Row.{over}
 use Rattle.measure.specs.Epoch.{shoushi}
-use Rattle.measure.proofs.Row.{over-least, written as written-first}
+use Rattle.rows.proofs.Row.{over-least, written as written-first}
 use Rattle.lines.specs.Line.{output}
-use Rattle.blocks.specs.Block.{Unfinished, enough, keptOf, written, blockOf}
-use Rattle.blocks.proofs.Kept.{kept-most, kept-unfinished}
-use Rattle.blocks.specs.declared.Block.{Block}
+use Rattle.lines.specs.Block.{Unfinished, enough, keptOf, written, blockOf}
+use Rattle.lines.proofs.Kept.{kept-most, kept-unfinished}
+use Rattle.lines.specs.declared.blocks.Block.{Block}
 use Rattle.month_lines.specs.Input.{readOf, writtenFor, keptFor, repliesIn, turnAfter, LeftOf, Left}
 use Rattle.month_lines.specs.declared.Turn.{Turn}
 use Rattle.month_lines.specs.declared.Read.{Read}

@@ -5,7 +5,7 @@ use contract.Lifetimes.{Lfts}
 use borrow.Fn.Kinds.{Dens, resT, endedOf}
 use denote.Ref.{now}
 use denote.Triple.Clauses.{AtExit}
-use Rattle.measure.proofs.Determined.{OneReply}
+use Rattle.rows.proofs.Determined.{OneReply}
 use Rattle.month_lines.proofs.answer_read.Kinds as answer-read
 use Rattle.month_lines.proofs.answer_read.Reads as answer-read-reads
 use Rattle.month_lines.proofs.turn_after.Kinds as turn-after

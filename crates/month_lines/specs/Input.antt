@@ -5,10 +5,10 @@ use mathlib.Core.Path.{_≡_}
 use mathlib.Core.List.{List, [], _++_}
 use Prim.Native.Nat.{ℕ}
 use lib.ListN.{length, take}
-use Rattle.measure.specs.Choice.{if_then_else_, _=?_}
+use Rattle.rows.specs.Choice.{if_then_else_, _=?_}
 use Rattle.measure.specs.Epoch.{shoushi}
 use Rattle.lines.specs.Line.{output}
-use Rattle.blocks.specs.Block.{keptOf, written, blockOf}
+use Rattle.lines.specs.Block.{keptOf, written, blockOf}
 use Rattle.month_lines.specs.declared.Read.{Read}
 use Rattle.month_lines.specs.declared.Read.the-variants.{Last, Part}
 use Rattle.month_lines.specs.declared.Turn.{Turn}

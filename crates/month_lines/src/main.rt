@@ -1,17 +1,17 @@
 // Reads days from standard input, a line each, and writes the month of each to standard output.
-use blocks::Block;
 use libc::STDERR_FILENO;
 use libc::STDIN_FILENO;
 use libc::STDOUT_FILENO;
 use lines::REPLY_ROOM;
+use lines::blocks::Block;
 use reads::Got;
 ghost use mathlib.Core.Path.{_≡_};
 ghost use Prim.Native.Nat.{_*_, _-_, _≤_};
 ghost use lib.ListN.{length, take};
-ghost use Rattle.measure.specs.Row.{over};
+ghost use Rattle.rows.specs.Row.{over};
 ghost use Rattle.reads.specs.Given.{Within};
 ghost use Rattle.lines.specs.Line.{replyRoom};
-ghost use Rattle.blocks.specs.Block.{enough, Unfinished};
+ghost use Rattle.lines.specs.Block.{enough, Unfinished};
 ghost use Rattle.month_lines.specs.Input.{readOf, writtenFor, keptFor, repliesIn, turnAfter, Left};
 
 // What was read: no more, so that the last line was answered in so many bytes; or a block, which was answered.
@@ -65,9 +65,9 @@ fn answer_read(buf: &mut [u8], kept: usize, have: usize, out: &mut [u8]) -> Read
     ensures { λ _. ⌜ now (buf .exit) ≡ over (keptFor kept (take have (now (buf .entry)))) (now (buf .entry)) ⌝ }
 {
     if have == kept {
-        return Read::Last(blocks::answer_lines(&buf[..have], out));
+        return Read::Last(lines::blocks::answer_lines(&buf[..have], out));
     }
-    Read::Part(blocks::answer_block(buf, have, out))
+    Read::Part(lines::blocks::answer_block(buf, have, out))
 }
 
 // How many bytes the replies have.

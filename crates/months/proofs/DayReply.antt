@@ -5,9 +5,9 @@ use mathlib.Core.Path.{_≡_, subst⁻¹}
 use Prim.Native.Nat.{ℕ, _≤_, _<_}
 use native.Mathlib.Omega.{arith}
 use borrow.Author.Tests.{lt-ltb, le-ltb}
-use Rattle.measure.specs.Reply.{Reply, answer, refused, noDay}
+use Rattle.rows.specs.Reply.{Reply, answer, refused, noDay}
 use Rattle.measure.specs.Epoch.{Epoch}
-use Rattle.measure.proofs.Choice.{lt-or-ge}
+use Rattle.rows.proofs.Choice.{lt-or-ge}
 use Rattle.edition.specs.Edition.{calendar}
 use Rattle.months.specs.Month.{MonthOfDay, earliest, latest, monthOfDay, dayReply}
 

@@ -4,4 +4,6 @@ pub mod ByTerm
 pub mod Sizes
 pub mod DayReply
 pub mod Dated
+pub mod Back
+pub mod RoundTrip
 pub mod Unique

@@ -2,9 +2,9 @@
 -- Assumes nothing.
 use Prim.Native.Nat.{ℕ, _≤_}
 use native.Mathlib.Omega.{arith}
-use Rattle.measure.proofs.Choice.{if-cases}
-use Rattle.kinds.specs.Kind.{Kind, ordinary, leap, numberIn, markIn}
-use Rattle.month_law.specs.Calendar.{Calendar, nameOf, leapAt, numberAt}
+use Rattle.rows.proofs.Choice.{if-cases}
+use Rattle.months.specs.Kind.{Kind, ordinary, leap, numberIn, markIn}
+use Rattle.month_law.specs.Calendar.{Calendar, numberOfRank, leapAt, numberAt}
 use Rattle.months.specs.Month.{kindAt}
 
 abbrev Small : Kind → Type 0
@@ -12,7 +12,7 @@ Small k = (numberIn k ≤ 12) × (markIn k ≤ 1)
 
 module _ (c : Calendar) (n p : ℕ) where
   pub number-most : numberAt c n p ≤ 12
-  unfolding numberAt nameOf
+  unfolding numberAt numberOfRank
   number-most = omega arith
 
   pub kind-most : Small (kindAt c n p)

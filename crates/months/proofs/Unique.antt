@@ -1,26 +1,27 @@
--- Each contract determines its reply: the questions', and the inner functions'.
+-- A kind is what it stands for, and each contract determines its reply.
 -- Assumes nothing.
 use mathlib.Core.Path.{_≡_, _∙_, refl, sym}
-use Rattle.measure.specs.Reply.{Reply, answer, refused}
+use Rattle.rows.proofs.Determined.{OneReply, read-back, one-answer}
+use Rattle.months.specs.Kind.{Kind, ordinary, leap, kindSaid}
+use Rattle.months.specs.declared.kinds.Kind.{Kind as KindCase}
+use Rattle.months.specs.declared.kinds.Kind.the-variants.{Ordinary, Leap}
+use Rattle.months.proofs.kinds.month_number.Kinds as month-number
+use Rattle.months.proofs.kinds.month_number.Reads as month-number-reads
+use Rattle.months.proofs.kinds.leap_mark.Kinds as leap-mark
+use Rattle.months.proofs.kinds.leap_mark.Reads as leap-mark-reads
+use Rattle.rows.specs.Reply.{Reply, answer, refused}
 use Rattle.measure.specs.Epoch.{shoushi}
-use Rattle.measure.proofs.Determined.{OneReply, read-back, one-answer}
 use Rattle.edition.specs.Edition.{calendar}
 use Rattle.edition.proofs.Edition.{shoushi-lawful}
-use Rattle.kinds.specs.Kind.{kindSaid}
-use Rattle.kinds.proofs.Unique.{kindMeant, kind-back}
-use Rattle.months.specs.Month.{MonthOfDay, monthSaid, replySaid}
+use Rattle.months.specs.Month.{MonthOfDay, monthSaid, monthAnswerSaid}
 use Rattle.months.specs.declared.Month.{Month}
-use Rattle.months.specs.declared.Reply.{Reply as ReplyCase}
-use Rattle.months.specs.declared.Reply.the-variants.{Month as InMonth, Refused}
+use Rattle.months.specs.declared.MonthAnswer.{MonthAnswer}
+use Rattle.months.specs.declared.MonthAnswer.the-variants.{Month as InMonth, Refused}
 use Rattle.months.proofs.ByTerm.{last-before}
 use Rattle.months.proofs.head.Kinds as head
 use Rattle.months.proofs.head.Reads as head-reads
 use Rattle.months.proofs.month_of.Kinds as month-of
 use Rattle.months.proofs.month_of.Reads as month-of-reads
-use Rattle.months.proofs.first_day.Kinds as first-day
-use Rattle.months.proofs.first_day.Reads as first-day-reads
-use Rattle.months.proofs.middle_day.Kinds as middle-day
-use Rattle.months.proofs.middle_day.Reads as middle-day-reads
 use Rattle.months.proofs.last_term.Kinds as last-term
 use Rattle.months.proofs.last_term.Reads as last-term-reads
 use Rattle.months.proofs.head_of.Kinds as head-of
@@ -29,6 +30,23 @@ use Rattle.months.proofs.head_span.Kinds as head-span
 use Rattle.months.proofs.head_span.Reads as head-span-reads
 use Rattle.months.proofs.kind_by.Kinds as kind-by
 use Rattle.months.proofs.kind_by.Reads as kind-by-reads
+use Rattle.months.proofs.dates.day_at.Kinds as day-at
+use Rattle.months.proofs.dates.day_at.Reads as day-at-reads
+
+pub kindMeant : Kind → KindCase
+kindMeant (ordinary n) = Ordinary n
+kindMeant (leap n) = Leap n
+
+pub kind-back : (k : KindCase) → kindMeant (kindSaid k) ≡ k
+unfolding kindMeant
+kind-back (Ordinary n) = refl
+kind-back (Leap n) = refl
+
+pub month-number-unique : OneReply month-number.ps month-number.r month-number-reads.Post
+month-number-unique κs a x y s t p q = p ∙ sym q
+
+pub leap-mark-unique : OneReply leap-mark.ps leap-mark.r leap-mark-reads.Post
+leap-mark-unique κs a x y s t p q = p ∙ sym q
 
 pub head-unique : OneReply head.ps head.r head-reads.Post
 head-unique κs a x y s t p q = one-answer x y _ p q
@@ -57,23 +75,17 @@ month-back m =
       length = m .length;
     }
 
-replyMeant : Reply MonthOfDay → ReplyCase
-replyMeant (answer m) = InMonth (monthMeant m)
-replyMeant (refused k) = Refused k
+pub answerMeant : Reply MonthOfDay → MonthAnswer
+answerMeant (answer m) = InMonth (monthMeant m)
+answerMeant (refused k) = Refused k
 
-reply-back : (r : ReplyCase) → replyMeant (replySaid r) ≡ r
-unfolding replyMeant
-reply-back (InMonth m) = λ i. InMonth (month-back m i)
-reply-back (Refused k) = refl
+pub answer-back : (r : MonthAnswer) → answerMeant (monthAnswerSaid r) ≡ r
+unfolding answerMeant
+answer-back (InMonth m) = λ i. InMonth (month-back m i)
+answer-back (Refused k) = refl
 
 pub month-of-unique : OneReply month-of.ps month-of.r month-of-reads.Post
-month-of-unique κs a x y s t p q = read-back replySaid replyMeant reply-back x y _ p q
-
-pub first-day-unique : OneReply first-day.ps first-day.r first-day-reads.Post
-first-day-unique κs a x y s t p q = p ∙ sym q
-
-pub middle-day-unique : OneReply middle-day.ps middle-day.r middle-day-reads.Post
-middle-day-unique κs a x y s t p q = p ∙ sym q
+month-of-unique κs a x y s t p q = read-back monthAnswerSaid answerMeant answer-back x y _ p q
 
 pub last-term-unique : OneReply last-term.ps last-term.r last-term-reads.Post
 last-term-unique κs a x y s t p q = last-before (calendar shoushi) shoushi-lawful _ x y p q
@@ -86,3 +98,6 @@ head-span-unique κs a x y s t p q = p ∙ sym q
 
 pub kind-by-unique : OneReply kind-by.ps kind-by.r kind-by-reads.Post
 kind-by-unique κs a x y s t p q = read-back kindSaid kindMeant kind-back x y _ p q
+
+pub day-at-unique : OneReply day-at.ps day-at.r day-at-reads.Post
+day-at-unique κs a x y s t p q = one-answer x y _ p q

@@ -1,8 +1,8 @@
 -- The head of a year, as a question.
 -- Assumes nothing.
 use Prim.Native.Nat.{ℕ}
-use Rattle.measure.specs.Choice.{_<?_}
-use Rattle.measure.specs.Reply.{Reply, answer, noYear, refuseIf}
+use Rattle.rows.specs.Choice.{_<?_}
+use Rattle.rows.specs.Reply.{Reply, answer, noYear, refuseIf}
 use Rattle.measure.specs.Units.{lastYear}
 use Rattle.measure.specs.Epoch.{Epoch}
 use Rattle.month_law.specs.Calendar.{head}

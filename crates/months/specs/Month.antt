@@ -1,15 +1,15 @@
 -- "A reply about a day".
 -- Assumes nothing.
 use Prim.Native.Nat.{ℕ, _+_, _-_}
-use Rattle.measure.specs.Choice.{if_then_else_, _<?_}
-use Rattle.measure.specs.Reply.{Reply, answer, refused, noDay, refuseIf}
+use Rattle.rows.specs.Choice.{if_then_else_, _<?_}
+use Rattle.rows.specs.Reply.{Reply, answer, refused, noDay, refuseIf}
 use Rattle.measure.specs.Epoch.{Epoch}
 use Rattle.month_law.specs.Calendar.{Calendar, lengthOf, monthOf, head, yearOf, leapAt, numberAt}
 use Rattle.edition.specs.Edition.{calendar}
-use Rattle.kinds.specs.Kind.{Kind, ordinary, leap, kindSaid}
+use Rattle.months.specs.Kind.{Kind, ordinary, leap, kindSaid}
 use Rattle.months.specs.declared.Month.{Month}
-use Rattle.months.specs.declared.Reply.{Reply as ReplyCase}
-use Rattle.months.specs.declared.Reply.the-variants.{Month as InMonth, Refused}
+use Rattle.months.specs.declared.MonthAnswer.{MonthAnswer}
+use Rattle.months.specs.declared.MonthAnswer.the-variants.{Month as InMonth, Refused}
 
 -- the month that a day lies in; places count from 0, days of a month from 1
 pub record MonthOfDay : Type 0 where
@@ -65,6 +65,6 @@ monthSaid m =
       length = m .length;
     }
 
-abbrev pub replySaid : ReplyCase → Reply MonthOfDay
-replySaid (InMonth m) = answer (monthSaid m)
-replySaid (Refused k) = refused k
+abbrev pub monthAnswerSaid : MonthAnswer → Reply MonthOfDay
+monthAnswerSaid (InMonth m) = answer (monthSaid m)
+monthAnswerSaid (Refused k) = refused k

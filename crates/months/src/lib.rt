@@ -1,26 +1,29 @@
 // The head of a year and a day's month.
-use kinds::Kind;
-use measure::Answer;
+pub mod dates;
+pub mod kinds;
+
+use crate::kinds::Kind;
+use edition::MIDDLE_STEP;
+use edition::first_day;
+use edition::middle_day;
 use measure::DAY;
 use measure::LAST_YEAR;
 use measure::MONTH;
-use measure::NO_DAY;
-use measure::NO_YEAR;
 use measure::SOLSTICE_EPOCH;
-use measure::TERM_STEP;
 use moons::MEAN_START;
+use rows::Answer;
+use rows::NO_DAY;
+use rows::NO_YEAR;
 ghost use mathlib.Core.Path.{_≡_};
 ghost use Prim.Native.Nat.{suc, _+_, _-_, _*_, _/_, _≤_, _<_};
-ghost use Rattle.measure.specs.Reply.{answerSaid};
+ghost use Rattle.rows.specs.Reply.{answerSaid};
 ghost use Rattle.measure.specs.Units.{lastYear};
 ghost use Rattle.measure.specs.Epoch.{shoushi};
-ghost use Rattle.moons.specs.Lunation.{lastLunation};
-ghost use Rattle.moons.specs.TrueMoon.{firstDay};
 ghost use Rattle.month_law.specs.Calendar.{monthOf, head};
 ghost use Rattle.edition.specs.Edition.{middleDay, calendar};
 ghost use Rattle.months.specs.Head.{headReply};
-ghost use Rattle.kinds.specs.Kind.{kindSaid, numberIn, markIn};
-ghost use Rattle.months.specs.Month.{earliest, latest, monthOfDay, dayReply, monthSaid, replySaid};
+ghost use Rattle.months.specs.Kind.{kindSaid};
+ghost use Rattle.months.specs.Month.{earliest, latest, monthOfDay, dayReply, monthSaid, monthAnswerSaid};
 ghost use Rattle.months.specs.Span.{spanOf, kindBy, LastBefore};
 
 // The month of a day: places count from 0, days of a month from 1.
@@ -33,7 +36,7 @@ pub struct Month {
     pub length: u64,
 }
 
-pub enum Reply {
+pub enum MonthAnswer {
     Month(Month),
     Refused(u64),
 }
@@ -53,16 +56,16 @@ pub fn head(n: u64) -> Answer
 }
 
 // The month in which a day lies. A day outside the calendar is refused with 3.
-pub fn month_of(d: u64) -> Reply
-    ensures { λ r. ⌜ replySaid r ≡ dayReply shoushi d ⌝ }
+pub fn month_of(d: u64) -> MonthAnswer
+    ensures { λ r. ⌜ monthAnswerSaid r ≡ dayReply shoushi d ⌝ }
 {
     if d < EARLIEST {
-        return Reply::Refused(NO_DAY);
+        return MonthAnswer::Refused(NO_DAY);
     }
     if LATEST < d {
-        return Reply::Refused(NO_DAY);
+        return MonthAnswer::Refused(NO_DAY);
     }
-    Reply::Month(month_in(span_of(d), d))
+    MonthAnswer::Month(month_in(span_of(d), d))
 }
 
 // A month by its lunation, with its first day and that of the next.
@@ -100,24 +103,6 @@ fn span_of(d: u64) -> Span
         first: next,
         next: first_day(mean + 2),
     }
-}
-
-// The first day of month l.
-pub fn first_day(l: u64) -> u64
-    requires { ⌜ l ≤ lastLunation + 3 ⌝ }
-    ensures { λ r. ⌜ r ≡ firstDay shoushi l ⌝ }
-{
-    measure::day_of(moons::true_time(l, 0))
-}
-
-const MIDDLE_STEP: u64 = 2 * TERM_STEP;
-
-// The day of middle term j, counted on over the years.
-pub fn middle_day(j: u64) -> u64
-    requires { ⌜ j ≤ 12 * lastYear + 24 ⌝ }
-    ensures { λ r. ⌜ r ≡ middleDay shoushi j ⌝ }
-{
-    measure::day_of(SOLSTICE_EPOCH + j * MIDDLE_STEP)
 }
 
 // The last middle term before a day.

@@ -5,8 +5,8 @@ use mathlib.Core.Path.{_≡_, _∙_, refl, sym, subst}
 use Prim.Native.Nat.{ℕ}
 use native.Mathlib.Omega.{arith}
 use lib.Dec.{T, nltb→le}
-use Rattle.measure.specs.Choice.{_<?_}
-use Rattle.measure.specs.Reply.{Reply, answer, refused, outside, refuseIf}
+use Rattle.rows.specs.Choice.{_<?_}
+use Rattle.rows.specs.Reply.{Reply, answer, refused, outside, refuseIf}
 use Rattle.moons.specs.Lunation.{lastLunation, lastQuarter, ofQuarter, Counted}
 
 abbrev past : ℕ → ℕ → Bool

@@ -12,10 +12,10 @@ use mir.Facts.{toZ-ofZ}
 use Rattle.measure.specs.Epoch.{shoushi}
 use Rattle.signed.specs.Signed.{minus, integer}
 use Rattle.signed.proofs.Integers.{integer-minus, integer-mag, opposite-mag, held}
-use Rattle.solar.specs.Solar.{solar}
-use Rattle.lunar.specs.Lunar.{lunar}
-use Rattle.motions.specs.Motion.{motion}
-use Rattle.motions.proofs.Rows.{motion-most}
+use Rattle.inequalities.specs.Solar.{solar}
+use Rattle.inequalities.specs.Lunar.{lunar}
+use Rattle.inequalities.specs.Motion.{motion}
+use Rattle.inequalities.proofs.MotionAt.{motion-most}
 use Rattle.moons.specs.Lunation.{Counted, mean}
 use Rattle.moons.specs.TrueMoon.{correctionFactor, correction, correctionOf, moved, trueMoon}
 use Rattle.moons.proofs.Sizes.{differenceSize, difference-size}

@@ -7,15 +7,15 @@ use native.Mathlib.Nat.{zero-div}
 use native.Mathlib.Omega.{arith}
 use lib.IntN.{ℤ, pos, negsuc, negℤ, _+ℤ_, _-ℤ_, _*ℤ_}
 use lib.Signed.{quotZ}
-use Rattle.measure.specs.Epoch.{shoushi}
+use Rattle.measure.specs.Epoch.{Epoch, shoushi, meanStart}
 use Rattle.signed.specs.Signed.{Signed, aheadBy, minus, integer}
 use Rattle.signed.proofs.Integers.{Is, is-subℕ, is-neg, is-integer, integer-is, integer-ahead, integer-minus}
 use Rattle.signed.proofs.Sizes.{Within}
-use Rattle.solar.specs.Solar.{solar, solarTime}
-use Rattle.lunar.specs.Lunar.{lunar, anomaly}
-use Rattle.motions.specs.Motion.{motion}
-use Rattle.motions.proofs.Rows.{motion-least}
-use Rattle.moons.specs.Lunation.{mean}
+use Rattle.inequalities.specs.Solar.{solar}
+use Rattle.inequalities.specs.Lunar.{lunar}
+use Rattle.inequalities.specs.Motion.{motion}
+use Rattle.inequalities.proofs.MotionAt.{motion-least}
+use Rattle.moons.specs.Lunation.{mean, solarTime, anomaly}
 use Rattle.moons.specs.TrueMoon.{correctionFactor, corrected, correction, correctionOf, moved, trueMoon}
 use Rattle.moons.proofs.Sizes.{difference-size}
 use Rattle.moons.proofs.Quotient.{quotient-least, corrected-is}
@@ -75,6 +75,28 @@ correction-size s a =
     )
 
 -- ---- the true moon
+pub moved-is : (t : ℕ) (c : Signed) → moved t c ≡ t + c .ahead - c .behind
+unfolding moved
+moved-is t c = refl
+
+module _ (e : Epoch) (l q : ℕ) where
+  pub true-is : trueMoon e l q ≡ moved (mean e l q) (correction (solarTime e l q) (anomaly e l q))
+  unfolding trueMoon correctionOf
+  true-is = refl
+
+-- a true moon is never further than a correction's size from its mean, where none takes a time below 0
+pub record TrueNear (e : Epoch) (l q : ℕ) : Type 0 where
+  pub not-before : mean e l q ≤ trueMoon e l q + correctionSize
+  pub not-after : trueMoon e l q ≤ mean e l q + correctionSize
+
+pub true-near : (e : Epoch) → correctionSize ≤ meanStart e → (l q : ℕ) → TrueNear e l q
+true-near e h l q =
+    let c = correction (solarTime e l q) (anomaly e l q) in
+    let small : Within correctionSize c = correction-size (solarTime e l q) (anomaly e l q) in
+    let is = true-is e l q in
+    let sum = moved-is (mean e l q) c in
+    record { not-before = omega (arith, mean-least e l q); not-after = omega (arith, mean-least e l q) }
+
 is-moved : (z : ℤ) (t : ℕ) (c : Signed) → Is z c → c .behind ≤ t + c .ahead → Is (pos t +ℤ z) (aheadBy (moved t c))
 unfolding moved
 is-moved (pos n) t c h k = omega arith

@@ -4,4 +4,5 @@ pub mod Sizes
 pub mod Quotient
 pub mod Corrected
 pub mod Bits
+pub mod CorrectionStep
 pub mod Unique

@@ -5,7 +5,7 @@ use Prim.Native.Nat.{ℕ, _+_, _*_, _-_, _/_, _≤_, _<_}
 use native.Mathlib.Nat.{mul-le-mul-left, div-mul-le-self, lt-div-mul-add, div-lt-iff-lt-mul}
 use native.Mathlib.Omega.{arith}
 use Rattle.signed.specs.Signed.{Signed}
-use Rattle.motions.proofs.MotionRows.{leastMotion}
+use Rattle.inequalities.proofs.MotionRows.{leastMotion}
 use Rattle.moons.specs.TrueMoon.{correctionFactor, corrected}
 
 pub quotient : ℕ → ℕ → ℕ

@@ -4,11 +4,9 @@ use Prim.Native.Nat.{ℕ, _+_}
 use native.Mathlib.Omega.{arith}
 use Rattle.signed.specs.Signed.{minus}
 use Rattle.signed.proofs.Sizes.{Within}
-use Rattle.laws.proofs.Sizes.{solarSize, lunarSize}
-use Rattle.solar.specs.Solar.{solar}
-use Rattle.solar.proofs.Sizes.{solar-size}
-use Rattle.lunar.specs.Lunar.{lunar}
-use Rattle.lunar.proofs.Sizes.{lunar-size}
+use Rattle.inequalities.proofs.Sizes.{solarSize, lunarSize, solar-size, lunar-size}
+use Rattle.inequalities.specs.Solar.{solar}
+use Rattle.inequalities.specs.Lunar.{lunar}
 
 abbrev pub differenceSize : ℕ
 differenceSize = solarSize + lunarSize

@@ -1,12 +1,11 @@
--- The times of a lunation's quarter: where they lie.
+-- The times of a lunation's quarter: where they lie, and those of the next lunation.
 -- Assumes nothing.
-use Prim.Native.Nat.{ℕ, _*_, _≤_, _<_}
+use mathlib.Core.Path.{_≡_}
+use Prim.Native.Nat.{ℕ, suc, _+_, _*_, _%_, _≤_, _<_}
 use native.Mathlib.Omega.{arith}
-use Rattle.measure.specs.Units.{day, year, anomalisticMonth}
+use Rattle.measure.specs.Units.{day, year, month, anomalisticMonth, anomalyAdvance}
 use Rattle.measure.specs.Epoch.{Epoch, shoushi, meanStart}
-use Rattle.solar.specs.Solar.{solarTime}
-use Rattle.lunar.specs.Lunar.{anomaly}
-use Rattle.moons.specs.Lunation.{Counted, mean}
+use Rattle.moons.specs.Lunation.{Counted, mean, solarTime, anomaly}
 
 pub solar-time-lt : (e : Epoch) (l q : ℕ) → solarTime e l q < year
 unfolding solarTime
@@ -23,3 +22,17 @@ mean-least e l q = omega arith
 pub mean-most : (l q : ℕ) → Counted l q → mean shoushi l q ≤ 400_000 * day
 unfolding mean
 mean-most l q h = omega arith
+
+-- the same quarter of the next lunation
+module _ (e : Epoch) (l q : ℕ) where
+  pub mean-next : mean e (suc l) q ≡ mean e l q + month
+  unfolding mean
+  mean-next = omega arith
+
+  pub solar-next : solarTime e (suc l) q ≡ (solarTime e l q + month) % year
+  unfolding solarTime
+  solar-next = omega arith
+
+  pub anomaly-next : anomaly e (suc l) q ≡ (anomaly e l q + anomalyAdvance) % anomalisticMonth
+  unfolding anomaly
+  anomaly-next = omega arith

@@ -1,7 +1,7 @@
 -- Each question's contract determines its reply.
 -- Assumes nothing.
 use mathlib.Core.Path.{_∙_, sym}
-use Rattle.measure.proofs.Determined.{OneReply, one-answer}
+use Rattle.rows.proofs.Determined.{OneReply, one-answer}
 use Rattle.signed.proofs.Unique.{one-signed}
 use Rattle.moons.proofs.mean.Kinds as mean
 use Rattle.moons.proofs.mean.Reads as mean-reads

@@ -1,10 +1,11 @@
--- Lunations and their quarters (000:222-234): which are admitted, and the mean moons.
+-- Lunations and their quarters (000:222-234): which are admitted, the mean moons, and their times in the solar year and in the
+-- anomalistic month (000:896-947).
 -- Assumes nothing.
-use Prim.Native.Nat.{ℕ, _+_, _*_, _≤_}
-use Rattle.measure.specs.Choice.{_<?_}
-use Rattle.measure.specs.Reply.{Reply, answer, outside, refuseIf}
-use Rattle.measure.specs.Units.{month, quarterStep}
-use Rattle.measure.specs.Epoch.{Epoch, meanStart}
+use Prim.Native.Nat.{ℕ, _+_, _*_, _%_, _≤_}
+use Rattle.rows.specs.Choice.{_<?_}
+use Rattle.rows.specs.Reply.{Reply, answer, outside, refuseIf}
+use Rattle.measure.specs.Units.{year, month, quarterStep, anomalisticMonth, anomalyAdvance}
+use Rattle.measure.specs.Epoch.{Epoch, meanStart, solarStart, anomalyStart}
 
 abbrev pub lastLunation : ℕ
 lastLunation = 12_367
@@ -26,3 +27,10 @@ mean e l q = meanStart e + l * month + q * quarterStep
 
 unfoldable pub meanReply : Epoch → ℕ → ℕ → Reply ℕ
 meanReply e l q = ofQuarter l q (mean e l q)
+
+-- its time in the solar year, which begins with the slow half, and its time in the anomalistic month
+unfoldable pub solarTime : Epoch → ℕ → ℕ → ℕ
+solarTime e l q = (solarStart e + l * month + q * quarterStep) % year
+
+unfoldable pub anomaly : Epoch → ℕ → ℕ → ℕ
+anomaly e l q = (anomalyStart e + l * anomalyAdvance + q * quarterStep) % anomalisticMonth

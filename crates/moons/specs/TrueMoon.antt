@@ -1,14 +1,13 @@
 -- "True moons" (000:953-955).
 -- Assumes nothing.
 use Prim.Native.Nat.{ℕ, _+_, _*_, _-_, _/_}
-use Rattle.measure.specs.Reply.{Reply}
-use Rattle.measure.specs.Days.{dayOf}
+use Rattle.rows.specs.Reply.{Reply}
 use Rattle.measure.specs.Epoch.{Epoch}
 use Rattle.signed.specs.Signed.{Signed, minus}
-use Rattle.solar.specs.Solar.{solar, solarTime}
-use Rattle.lunar.specs.Lunar.{lunar, anomaly}
-use Rattle.motions.specs.Motion.{motion}
-use Rattle.moons.specs.Lunation.{ofQuarter, mean}
+use Rattle.inequalities.specs.Solar.{solar}
+use Rattle.inequalities.specs.Lunar.{lunar}
+use Rattle.inequalities.specs.Motion.{motion}
+use Rattle.moons.specs.Lunation.{ofQuarter, mean, solarTime, anomaly}
 
 -- what the correction multiplies by: 0.0820 day to a limit
 abbrev pub correctionFactor : ℕ
@@ -36,10 +35,6 @@ moved t c = t + c .ahead - c .behind
 
 unfoldable pub trueMoon : Epoch → ℕ → ℕ → ℕ
 trueMoon e l q = moved (mean e l q) (correctionOf e l q)
-
--- the day of true new moon l, on which month l begins
-unfoldable pub firstDay : Epoch → ℕ → ℕ
-firstDay e l = dayOf (trueMoon e l 0)
 
 -- the questions about a lunation and a quarter
 unfoldable pub solarReply : Epoch → ℕ → ℕ → Reply Signed

@@ -1,26 +1,24 @@
 // Mean and true moons: a lunation and its quarter, with both inequalities and the correction.
 use measure::ANOMALISTIC_MONTH;
 use measure::ANOMALY_EPOCH;
-use measure::Answer;
 use measure::HALF_YEAR;
 use measure::LEAP_EPOCH;
 use measure::MONTH;
-use measure::OUTSIDE;
 use measure::QUARTER_STEP;
 use measure::SOLSTICE_EPOCH;
 use measure::YEAR;
+use rows::Answer;
+use rows::OUTSIDE;
 use signed::SignedAnswer;
 ghost use mathlib.Core.Bool.{_||_};
 ghost use mathlib.Core.Path.{_≡_};
 ghost use Prim.Native.Nat.{_<_};
-ghost use Rattle.measure.specs.Choice.{_<?_};
-ghost use Rattle.measure.specs.Reply.{answerSaid};
+ghost use Rattle.rows.specs.Choice.{_<?_};
+ghost use Rattle.rows.specs.Reply.{answerSaid};
 ghost use Rattle.measure.specs.Units.{year, anomalisticMonth};
 ghost use Rattle.measure.specs.Epoch.{shoushi};
 ghost use Rattle.signed.specs.Signed.{integer, asInteger, signedSaid};
-ghost use Rattle.solar.specs.Solar.{solarTime};
-ghost use Rattle.lunar.specs.Lunar.{anomaly};
-ghost use Rattle.moons.specs.Lunation.{lastLunation, lastQuarter, Counted, mean, meanReply};
+ghost use Rattle.moons.specs.Lunation.{lastLunation, lastQuarter, Counted, mean, meanReply, solarTime, anomaly};
 ghost use Rattle.moons.specs.TrueMoon.{correction, correctionOf, trueMoon, solarReply, lunarReply, motionReply, correctionReply, trueReply};
 
 pub const LAST_LUNATION: u64 = 12_367;
@@ -46,7 +44,7 @@ pub fn solar(l: u64, q: u64) -> SignedAnswer
     if outside(l, q) {
         return SignedAnswer::Refused(OUTSIDE);
     }
-    SignedAnswer::Number(solar::solar(solar_time(l, q)))
+    SignedAnswer::Number(inequalities::solar::solar(solar_time(l, q)))
 }
 
 // The lunar inequality.
@@ -56,7 +54,7 @@ pub fn lunar(l: u64, q: u64) -> SignedAnswer
     if outside(l, q) {
         return SignedAnswer::Refused(OUTSIDE);
     }
-    SignedAnswer::Number(lunar::lunar(anomaly(l, q)))
+    SignedAnswer::Number(inequalities::lunar::lunar(anomaly(l, q)))
 }
 
 // The moon's motion.
@@ -66,7 +64,7 @@ pub fn motion(l: u64, q: u64) -> Answer
     if outside(l, q) {
         return Answer::Refused(OUTSIDE);
     }
-    Answer::Number(motions::motion(anomaly(l, q)))
+    Answer::Number(inequalities::motions::motion(anomaly(l, q)))
 }
 
 // The correction.
@@ -152,6 +150,6 @@ fn correction_at(time: u64, anomaly: u64) -> i64
     requires { ⌜ (time < year) × (anomaly < anomalisticMonth) ⌝ }
     ensures { λ r. ⌜ r ≡ integer (correction time anomaly) ⌝ }
 {
-    let ahead = solar::solar(time) - lunar::lunar(anomaly);
-    ahead * CORRECTION_FACTOR / motions::motion(anomaly) as i64
+    let ahead = inequalities::solar::solar(time) - inequalities::lunar::lunar(anomaly);
+    ahead * CORRECTION_FACTOR / inequalities::motions::motion(anomaly) as i64
 }

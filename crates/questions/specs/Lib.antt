@@ -1,2 +1,3 @@
-pub mod Told
+pub mod DeskReply
+pub mod MarkWords
 pub mod Question

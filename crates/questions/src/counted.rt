@@ -1,37 +1,31 @@
-// The questions by how many numbers follow the word. A list has the words, and a word's place in it picks the reply.
-use crate::Reply;
-use crate::said::days_on;
-use crate::said::hour_of;
-use crate::said::moment_of;
-use crate::said::month_of;
-use crate::said::name_of;
-use crate::said::number_of;
-use crate::said::signed_of;
-use measure::BAD_LINE;
+// The questions by how many numbers follow the word. A list has the words, and a word's place in it picks the answer.
+use crate::DeskAnswer;
 use words::place_of;
-ghost use mathlib.Core.Path.{_≡_};
+ghost use mathlib.Core.List.{List};
+ghost use Prim.Native.Nat.{ℕ};
+ghost use lib.ListN.{length};
 ghost use Rattle.measure.specs.Epoch.{shoushi};
-ghost use Rattle.questions.specs.Told.{toldIn};
+ghost use Rattle.questions.specs.DeskReply.{Answers};
 ghost use Rattle.questions.specs.Question.{_among_, _at_, alone, withOne, withTwo, withThree};
 
-pub(crate) fn alone(word: &[u8]) -> Reply
-    ensures { λ r. ⌜ toldIn r ≡ now (word .entry) among alone ⌝ }
+pub(crate) fn alone(word: &[u8]) -> DeskAnswer
+    ensures { λ r. ⌜ ((row : List ℕ) → Answers (now (word .entry) among alone) r row row) ⌝ }
 {
     alone_at(place_of(word, b" constants help"))
 }
 
-fn alone_at(k: usize) -> Reply
-    ensures { λ r. ⌜ toldIn r ≡ alone at k ⌝ }
+fn alone_at(k: usize) -> DeskAnswer
+    ensures { λ r. ⌜ ((row : List ℕ) → Answers (alone at k) r row row) ⌝ }
 {
     match k {
-        0 => Reply::Constants,
-        1 => Reply::Help,
-        _ => Reply::Refused(BAD_LINE),
+        0 => DeskAnswer::Constants,
+        1 => DeskAnswer::Help,
+        _ => DeskAnswer::Malformed,
     }
 }
 
-pub(crate) fn with_one(word: &[u8], n: u64) -> Reply
-    ensures { λ r. ⌜ toldIn r ≡ now (word .entry) among withOne shoushi n ⌝ }
+pub(crate) fn with_one(word: &[u8], n: u64, row: &mut [u64]) -> DeskAnswer
+    ensures { λ r. ⌜ Answers (now (word .entry) among withOne shoushi (length (now (row .entry))) n) r (now (row .entry)) (now (row .exit)) ⌝ }
 {
     one_at(
         place_of(
@@ -39,28 +33,29 @@ pub(crate) fn with_one(word: &[u8], n: u64) -> Reply
             b" solstice terms head year day name hour extra vanishing",
         ),
         n,
+        row,
     )
 }
 
-fn one_at(k: usize, n: u64) -> Reply
-    ensures { λ r. ⌜ toldIn r ≡ withOne shoushi n at k ⌝ }
+fn one_at(k: usize, n: u64, row: &mut [u64]) -> DeskAnswer
+    ensures { λ r. ⌜ Answers (withOne shoushi (length (now (row .entry))) n at k) r (now (row .entry)) (now (row .exit)) ⌝ }
 {
     match k {
-        0 => moment_of(seasons::solstice(n)),
-        1 => Reply::Terms(n),
-        2 => number_of(months::head(n)),
-        3 => Reply::Year(n),
-        4 => month_of(months::month_of(n)),
-        5 => name_of(measure::name_of(n)),
-        6 => hour_of(remainders::double_hour(n)),
-        7 => days_on(remainders::extra_day(n)),
-        8 => days_on(remainders::vanishing_day(n)),
-        _ => Reply::Refused(BAD_LINE),
+        0 => DeskAnswer::Moment(seasons::solstice(n)),
+        1 => DeskAnswer::Terms(seasons::terms(n, row)),
+        2 => DeskAnswer::Number(months::head(n)),
+        3 => DeskAnswer::Year(lists::list(n, row)),
+        4 => DeskAnswer::Month(months::month_of(n)),
+        5 => DeskAnswer::Name(measure::name_of(n)),
+        6 => DeskAnswer::Hour(remainders::double_hour(n)),
+        7 => DeskAnswer::Days(remainders::extra_day(n)),
+        8 => DeskAnswer::Days(remainders::vanishing_day(n)),
+        _ => DeskAnswer::Malformed,
     }
 }
 
-pub(crate) fn with_two(word: &[u8], n: u64, i: u64) -> Reply
-    ensures { λ r. ⌜ toldIn r ≡ now (word .entry) among withTwo shoushi n i ⌝ }
+pub(crate) fn with_two(word: &[u8], n: u64, i: u64, row: &mut [u64]) -> DeskAnswer
+    ensures { λ r. ⌜ Answers (now (word .entry) among withTwo shoushi (length (now (row .entry))) n i) r (now (row .entry)) (now (row .exit)) ⌝ }
 {
     two_at(
         place_of(
@@ -69,38 +64,39 @@ pub(crate) fn with_two(word: &[u8], n: u64, i: u64) -> Reply
         ),
         n,
         i,
+        row,
     )
 }
 
-fn two_at(k: usize, n: u64, i: u64) -> Reply
-    ensures { λ r. ⌜ toldIn r ≡ withTwo shoushi n i at k ⌝ }
+fn two_at(k: usize, n: u64, i: u64, row: &mut [u64]) -> DeskAnswer
+    ensures { λ r. ⌜ Answers (withTwo shoushi (length (now (row .entry))) n i at k) r (now (row .entry)) (now (row .exit)) ⌝ }
 {
     match k {
-        0 => moment_of(seasons::term(n, i)),
-        1 => moment_of(seasons::earth(n, i)),
-        2 => Reply::Years(n, i),
-        3 => moment_of(moons::mean(n, i)),
-        4 => moment_of(moons::true_moon(n, i)),
-        5 => number_of(moons::motion(n, i)),
-        6 => signed_of(moons::solar(n, i)),
-        7 => signed_of(moons::lunar(n, i)),
-        8 => signed_of(moons::correction(n, i)),
-        _ => Reply::Refused(BAD_LINE),
+        0 => DeskAnswer::Moment(seasons::term(n, i)),
+        1 => DeskAnswer::Moment(seasons::earth(n, i)),
+        2 => DeskAnswer::Years(lists::run(n, i, row)),
+        3 => DeskAnswer::Moment(moons::mean(n, i)),
+        4 => DeskAnswer::Moment(moons::true_moon(n, i)),
+        5 => DeskAnswer::Number(moons::motion(n, i)),
+        6 => DeskAnswer::Signed(moons::solar(n, i)),
+        7 => DeskAnswer::Signed(moons::lunar(n, i)),
+        8 => DeskAnswer::Signed(moons::correction(n, i)),
+        _ => DeskAnswer::Malformed,
     }
 }
 
-pub(crate) fn with_three(word: &[u8], n: u64, i: u64, p: u64) -> Reply
-    ensures { λ r. ⌜ toldIn r ≡ now (word .entry) among withThree shoushi n i p ⌝ }
+pub(crate) fn with_three(word: &[u8], n: u64, i: u64, p: u64) -> DeskAnswer
+    ensures { λ r. ⌜ ((row : List ℕ) → Answers (now (word .entry) among withThree shoushi n i p) r row row) ⌝ }
 {
     three_at(place_of(word, b" pentad back"), n, i, p)
 }
 
-fn three_at(k: usize, n: u64, i: u64, p: u64) -> Reply
-    ensures { λ r. ⌜ toldIn r ≡ withThree shoushi n i p at k ⌝ }
+fn three_at(k: usize, n: u64, i: u64, p: u64) -> DeskAnswer
+    ensures { λ r. ⌜ ((row : List ℕ) → Answers (withThree shoushi n i p at k) r row row) ⌝ }
 {
     match k {
-        0 => moment_of(seasons::pentad(n, i, p)),
-        1 => number_of(dates::day_at(n, i, p)),
-        _ => Reply::Refused(BAD_LINE),
+        0 => DeskAnswer::Moment(seasons::pentad(n, i, p)),
+        1 => DeskAnswer::Number(months::dates::day_at(n, i, p)),
+        _ => DeskAnswer::Malformed,
     }
 }

@@ -1,36 +1,44 @@
-// From a line of text to the reply that it gets, for every question of up to three numbers. A torn sheet's, of any number of marks, is asked
-// apart from these.
+// From a line of text to the answer that it gets. Where a list is asked for, its numbers go into a lent row.
 mod counted;
 mod halves;
-mod said;
+mod marks;
 
-use measure::BAD_LINE;
-use months::Month;
+use measure::Name;
+use months::MonthAnswer;
+use remainders::Days;
+use remainders::Hour;
+use rows::Answer;
+use signed::SignedAnswer;
 use words::Numbers;
 ghost use mathlib.Core.Path.{_≡_};
+ghost use lib.ListN.{length};
 ghost use Rattle.words.specs.Numbers.{numbersOf};
 ghost use Rattle.measure.specs.Epoch.{shoushi};
-ghost use Rattle.questions.specs.Told.{toldIn};
+ghost use Rattle.questions.specs.DeskReply.{Answers};
 ghost use Rattle.questions.specs.Question.{onNumbers, replyTo};
 
-pub enum Reply {
-    // By its number.
-    Refused(u64),
-    // There is none.
-    Nothing,
-    One(u64),
-    Two(u64, u64),
-    Three(u64, u64, u64),
-    Signed(i64),
-    // The month of a day.
-    Month(Month),
+// The calendar's answer, by the kind of what was asked for.
+pub enum DeskAnswer {
+    // No question.
+    Malformed,
+    Number(Answer),
     // A running time.
-    Moment(u64),
-    // The 24 terms of a year.
-    Terms(u64),
-    // The months of a year, and of so many years from one on.
-    Year(u64),
-    Years(u64, u64),
+    Moment(Answer),
+    Signed(SignedAnswer),
+    // The month of a day.
+    Month(MonthAnswer),
+    // The name of a day.
+    Name(Name),
+    // A double-hour with its ke.
+    Hour(Hour),
+    // Days to add.
+    Days(Days),
+    // How many numbers, records or years stand in the lent row: the terms of a year, its months, those of a run of years, and the years that
+    // agree with a torn sheet.
+    Terms(Answer),
+    Year(Answer),
+    Years(Answer),
+    Sheet(Answer),
     Constants,
     Help,
 }
@@ -38,25 +46,31 @@ pub enum Reply {
 // The longest line that is answered.
 pub const LONGEST: usize = 1_023;
 
-// The reply to a line: its first word says what is asked, and the rest of what.
-pub fn ask(line: &[u8]) -> Reply
-    ensures { λ r. ⌜ toldIn r ≡ replyTo shoushi (now (line .entry)) ⌝ }
+// The answer to a line: its first word says what is asked, and the rest of what. A list goes into the row from its start; a row too short for
+// it is refused with 4.
+pub fn ask(line: &[u8], row: &mut [u64]) -> DeskAnswer
+    ensures { λ r. ⌜ Answers (replyTo shoushi (length (now (row .entry))) (now (line .entry))) r (now (row .entry)) (now (row .exit)) ⌝ }
 {
     if line.len() > LONGEST {
-        return Reply::Refused(BAD_LINE);
+        return DeskAnswer::Malformed;
     }
-    by_numbers(words::word_in(line), words::after_word(line))
+    let word = words::word_in(line);
+    let rest = words::after_word(line);
+    if check::same(word, b"sheet") {
+        return marks::on_marks(rest, row);
+    }
+    by_numbers(word, rest, row)
 }
 
 // The numbers are read once. Where the rest is no numbers, it starts with a half.
-fn by_numbers(word: &[u8], rest: &[u8]) -> Reply
-    ensures { λ r. ⌜ toldIn r ≡ onNumbers shoushi (now (word .entry)) (now (rest .entry)) (numbersOf (now (rest .entry))) ⌝ }
+fn by_numbers(word: &[u8], rest: &[u8], row: &mut [u64]) -> DeskAnswer
+    ensures { λ r. ⌜ Answers (onNumbers shoushi (length (now (row .entry))) (now (word .entry)) (now (rest .entry)) (numbersOf (now (rest .entry)))) r (now (row .entry)) (now (row .exit)) ⌝ }
 {
     let numbers = words::numbers_in(rest);
     match numbers {
         Numbers::Nothing => counted::alone(word),
-        Numbers::One(n) => counted::with_one(word, n),
-        Numbers::Two(n, i) => counted::with_two(word, n, i),
+        Numbers::One(n) => counted::with_one(word, n, row),
+        Numbers::Two(n, i) => counted::with_two(word, n, i, row),
         Numbers::Three(n, i, p) => counted::with_three(word, n, i, p),
         Numbers::Other => halves::on_half(word, rest),
     }

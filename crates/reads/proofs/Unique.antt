@@ -1,6 +1,6 @@
 -- The contract determines what is got. Assumes nothing.
 use mathlib.Core.Path.{_≡_, refl}
-use Rattle.measure.proofs.Determined.{OneReply, read-back}
+use Rattle.rows.proofs.Determined.{OneReply, read-back}
 use Rattle.reads.specs.Given.{Given, bytes, failed, gotSaid}
 use Rattle.reads.specs.declared.Got.{Got}
 use Rattle.reads.specs.declared.Got.the-variants.{Bytes, Failed}

@@ -5,15 +5,15 @@ use mathlib.Core.Path.{_≡_, _∙_}
 use Prim.Native.Nat.{ℕ, suc, _+_, _≤_, _<_}
 use native.Mathlib.Omega.{arith}
 use lib.ListN.{length}
-use Rattle.measure.specs.Reply.{Reply, answer, answerSaid}
+use Rattle.rows.specs.Reply.{Reply, answer, answerSaid}
 use Rattle.measure.specs.Units.{lastYear}
 use Rattle.measure.specs.Epoch.{shoushi}
-use Rattle.measure.specs.declared.Answer.{Answer}
+use Rattle.rows.specs.declared.Answer.{Answer}
 use Rattle.moons.specs.Lunation.{lastLunation}
 use Rattle.month_law.specs.Calendar.{Calendar, head, monthsIn}
 use Rattle.edition.specs.Edition.{calendar}
 use Rattle.edition.proofs.Edition.{shoushi-lawful}
-use Rattle.year_rows.specs.Records.{recordsOf}
+use Rattle.lists.specs.Records.{recordsOf}
 use Rattle.lists.specs.Lists.{runOf, monthsInRun, listReply, runReply}
 use Rattle.months.proofs.Reach.{head-most}
 use Rattle.lists.proofs.RunLaws.{run-ends, months-run-most}

@@ -9,9 +9,9 @@ use native.Mathlib.Omega.{arith}
 use lib.ListN.{length, set, length-append}
 use Rattle.month_law.specs.Calendar.{Calendar, head, monthsIn}
 use Rattle.month_law.specs.Lawful.{Lawful}
-use Rattle.year_rows.specs.Records.{recordAt, recordOf, recordsOf}
+use Rattle.lists.specs.Records.{recordAt, recordOf, recordsOf}
 use Rattle.lists.specs.Lists.{runOf, monthsInRun}
-use Rattle.year_rows.proofs.RecordLaws.{record-of}
+use Rattle.lists.proofs.RecordLaws.{record-of}
 use Rattle.lists.proofs.RunLaws.{run-ends}
 use Rattle.records.specs.MonthRecords.{inRecords, recordIn, monthsFrom, over}
 use Rattle.records.specs.declared.MonthRecord.{MonthRecord}

@@ -16,13 +16,13 @@ use contract.Monad.{Fun, fact}
 use denote.Ref.{now}
 use denote.Triple.Clauses.{AtExit}
 use denote.Triple.Entry.{Args}
-use Rattle.measure.specs.Reply.{Reply}
+use Rattle.rows.specs.Reply.{Reply}
 use Rattle.measure.specs.Epoch.{shoushi}
-use Rattle.measure.specs.declared.Answer.{Answer}
-use Rattle.measure.proofs.Determined.{one-answer}
+use Rattle.rows.specs.declared.Answer.{Answer}
+use Rattle.rows.proofs.Determined.{one-answer}
 use Rattle.month_law.specs.Calendar.{monthsIn}
 use Rattle.edition.specs.Edition.{calendar}
-use Rattle.year_rows.specs.Records.{recordsOf}
+use Rattle.lists.specs.Records.{recordsOf}
 use Rattle.lists.specs.Lists.{runOf, listReply, runReply}
 use Rattle.records.specs.declared.MonthRecord.{MonthRecord}
 use Rattle.records.proofs.Runs.{Says, YearSays, RunSays}

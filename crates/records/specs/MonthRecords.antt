@@ -3,9 +3,9 @@
 use mathlib.Core.List.{List, [], _∷_, _++_}
 use Prim.Native.Nat.{ℕ, zero, suc, _+_}
 use lib.ListN.{length, drop, getD}
-use Rattle.measure.specs.Reply.{Reply, answer, refused}
+use Rattle.rows.specs.Reply.{Reply, answer, refused}
 use Rattle.month_law.specs.Calendar.{Calendar}
-use Rattle.year_rows.specs.Records.{recordOf}
+use Rattle.lists.specs.Records.{recordOf}
 use Rattle.records.specs.declared.MonthRecord.{MonthRecord}
 
 -- the record that four numbers are

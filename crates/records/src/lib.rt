@@ -1,16 +1,16 @@
 // A year's list and a run of years, as month records in a lent row of structs.
-use measure::Answer;
 use moons::LAST_LUNATION;
+use rows::Answer;
 ghost use mathlib.Core.Path.{_≡_};
 ghost use Prim.Native.Nat.{suc, _+_, _≤_, _<_};
 ghost use lib.ListN.{length};
-ghost use Rattle.measure.specs.Reply.{answerSaid};
+ghost use Rattle.rows.specs.Reply.{answerSaid};
 ghost use Rattle.measure.specs.Units.{lastYear};
 ghost use Rattle.measure.specs.Epoch.{shoushi};
 ghost use Rattle.moons.specs.Lunation.{lastLunation};
 ghost use Rattle.month_law.specs.Calendar.{head, monthsIn};
 ghost use Rattle.edition.specs.Edition.{calendar};
-ghost use Rattle.year_rows.specs.Records.{recordOf, recordsOf};
+ghost use Rattle.lists.specs.Records.{recordOf, recordsOf};
 ghost use Rattle.lists.specs.Lists.{runOf, listReply, runReply};
 ghost use Rattle.records.specs.MonthRecords.{recordIn, inRecords, monthsFrom, writtenIn, over, rowAfter};
 
@@ -63,14 +63,14 @@ fn record_of(l: u64, i: usize) -> MonthRecord
     ensures { λ r. ⌜ r ≡ recordIn (recordOf (calendar shoushi) (l + i)) ⌝ }
 {
     let month = l + i as u64;
-    let first = months::first_day(month);
-    let next = months::first_day(month + 1);
+    let first = edition::first_day(month);
+    let next = edition::first_day(month + 1);
     let kind = months::kind_by(first, months::last_term(next));
     MonthRecord {
         first,
         length: next - first,
-        number: kinds::number_in(kind),
-        leap: kinds::leap_mark(kind),
+        number: months::kinds::month_number(kind),
+        leap: months::kinds::leap_mark(kind),
     }
 }
 

@@ -2,8 +2,8 @@
 -- Assumes nothing.
 use mathlib.Core.Path.{_≡_, refl}
 use Prim.Native.Nat.{ℕ}
-use Rattle.measure.specs.Reply.{Reply, answer, refused}
-use Rattle.measure.proofs.Determined.{OneReply, read-back}
+use Rattle.rows.specs.Reply.{Reply, answer, refused}
+use Rattle.rows.proofs.Determined.{OneReply, read-back}
 use Rattle.remainders.specs.Hours.{hourSaid}
 use Rattle.remainders.specs.ExtraDays.{Found, none, daysOn, daysSaid}
 use Rattle.remainders.specs.declared.Hour.{Hour}
@@ -17,11 +17,11 @@ use Rattle.remainders.proofs.extra_day.Reads as extra-day-reads
 use Rattle.remainders.proofs.vanishing_day.Kinds as vanishing-day
 use Rattle.remainders.proofs.vanishing_day.Reads as vanishing-day-reads
 
-hourMeant : Reply (ℕ × ℕ) → Hour
+pub hourMeant : Reply (ℕ × ℕ) → Hour
 hourMeant (answer h) = At (h .0) (h .1)
 hourMeant (refused k) = HourRefused k
 
-hour-back : (r : Hour) → hourMeant (hourSaid r) ≡ r
+pub hour-back : (r : Hour) → hourMeant (hourSaid r) ≡ r
 unfolding hourMeant
 hour-back (At h k) = refl
 hour-back (HourRefused k) = refl
@@ -29,12 +29,12 @@ hour-back (HourRefused k) = refl
 pub double-hour-unique : OneReply double-hour.ps double-hour.r double-hour-reads.Post
 double-hour-unique κs a x y s t p q = read-back hourSaid hourMeant hour-back x y _ p q
 
-daysMeant : Reply Found → Days
+pub daysMeant : Reply Found → Days
 daysMeant (answer none) = Nothing
 daysMeant (answer (daysOn n)) = Add n
 daysMeant (refused k) = DaysRefused k
 
-days-back : (r : Days) → daysMeant (daysSaid r) ≡ r
+pub days-back : (r : Days) → daysMeant (daysSaid r) ≡ r
 unfolding daysMeant
 days-back (Add n) = refl
 days-back Nothing = refl

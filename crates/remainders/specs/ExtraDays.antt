@@ -2,9 +2,9 @@
 -- Assumes nothing.
 use mathlib.Core.Path.{_≡_, refl}
 use Prim.Native.Nat.{ℕ, _+_, _*_, _-_, _/_}
-use Rattle.measure.specs.Choice.{if_then_else_, _≤?_}
-use Rattle.measure.specs.Reply.{Reply, answer, refused, outside, refuseIf}
-use Rattle.measure.specs.Units.{day, month, termStep}
+use Rattle.rows.specs.Choice.{if_then_else_, _≤?_}
+use Rattle.rows.specs.Reply.{Reply, answer, refused, outside, refuseIf}
+use Rattle.measure.specs.Units.{day, termStep, monthDeficit}
 use Rattle.remainders.specs.declared.Days.{Days}
 use Rattle.remainders.specs.declared.Days.the-variants.{Add, Nothing, Refused}
 
@@ -13,18 +13,15 @@ pub data Found : Type 0 where
   none : Found
   daysOn : ℕ → Found
 
--- 000:198, 199 and 200: a term is so much over 15 days, and a month so much under 30
+-- 000:198 and 199: a term is so much over 15 days
 abbrev pub extraLimit : ℕ
 extraLimit = 78_156_250
 
 abbrev pub termExcess : ℕ
 termExcess = 21_843_750
 
-abbrev pub monthDeficit : ℕ
-monthDeficit = 46_940_700
-
-identities : (termStep ≡ 15 * day + termExcess) × (day ≡ extraLimit + termExcess) × (30 * day ≡ month + monthDeficit)
-identities = (refl, refl, refl)
+identities : (termStep ≡ 15 * day + termExcess) × (day ≡ extraLimit + termExcess)
+identities = (refl, refl)
 
 -- 000:236-239, of a term's remainder
 unfoldable pub extraDay : ℕ → Found

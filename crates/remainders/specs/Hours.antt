@@ -1,8 +1,8 @@
 -- "Hours": the double-hour and the ke of a remainder, reckoned from zi-zheng (000:451-460).
 -- Assumes nothing.
 use Prim.Native.Nat.{ℕ, _*_, _/_, _%_}
-use Rattle.measure.specs.Choice.{_≤?_}
-use Rattle.measure.specs.Reply.{Reply, answer, refused, outside, refuseIf}
+use Rattle.rows.specs.Choice.{_≤?_}
+use Rattle.rows.specs.Reply.{Reply, answer, refused, outside, refuseIf}
 use Rattle.measure.specs.Units.{day, fen}
 use Rattle.remainders.specs.declared.Hour.{Hour}
 use Rattle.remainders.specs.declared.Hour.the-variants.{At, Refused}

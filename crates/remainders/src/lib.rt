@@ -2,8 +2,8 @@
 use measure::DAY;
 use measure::FEN;
 use measure::MONTH;
-use measure::OUTSIDE;
 use measure::TERM_STEP;
+use rows::OUTSIDE;
 ghost use mathlib.Core.Path.{_≡_};
 ghost use Rattle.remainders.specs.Hours.{hourReply, hourSaid};
 ghost use Rattle.remainders.specs.ExtraDays.{extraReply, vanishingReply, daysSaid};

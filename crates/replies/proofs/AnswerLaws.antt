@@ -1,56 +1,68 @@
--- Laws of what answers a line: a torn sheet's line, or another's, and when a row has room for it.
+-- Laws of what answers a line: how many numbers its list takes, and when a row has room for its text.
 -- Assumes nothing.
-use mathlib.Core.Bool.{true, false}
+use mathlib.Core.Bool.{Bool, false}
 use mathlib.Core.List.{List}
-use mathlib.Core.Path.{_≡_, refl}
-use Prim.Native.Nat.{ℕ, _≤_, _<_}
+use mathlib.Core.Path.{_≡_, refl, ap₂}
+use Prim.Native.Nat.{ℕ, suc, _≤_}
 use native.Mathlib.Omega.{arith}
-use borrow.Author.Tests.{lt-ltb, le-ltb}
+use borrow.Author.Tests.{le-ltb}
 use lib.ListN.{length}
-use Rattle.measure.specs.Reply.{Reply, answer, refused, shortRow}
+use Rattle.rows.specs.Choice.{if_then_else_, _<?_}
+use Rattle.rows.specs.Reply.{Reply, answer, refused, answerSaid}
+use Rattle.rows.specs.Row.{rowAfter}
+use Rattle.rows.specs.declared.Answer.{Answer}
+use Rattle.measure.specs.Units.{lastYear}
 use Rattle.measure.specs.Epoch.{shoushi}
-use Rattle.measure.proofs.Choice.{if-cases}
-use Rattle.words.specs.Line.{afterWord}
-use Rattle.list_texts.specs.ListText.{yearsRoom}
-use Rattle.sheet_texts.specs.SheetText.{sheetText, sheetRoom}
-use Rattle.questions.specs.Question.{replyTo}
+use Rattle.seasons.specs.Terms.{termsReply}
+use Rattle.lists.specs.Lists.{listReply}
+use Rattle.words.specs.Choice.{chosen}
+use Rattle.words.specs.Line.{wordOf, afterWord}
+use Rattle.words.specs.Numbers.{numbersOf}
+use Rattle.words.specs.Text.{_is_}
+use Rattle.words.specs.declared.Numbers.{Numbers}
+use Rattle.words.specs.declared.Numbers.the-variants.{Nothing, One, Two, Three, Other}
+use Rattle.sheets.specs.Marks.{sheetReply}
+use Rattle.sheets.specs.declared.Mark.{Mark}
+use Rattle.questions.specs.DeskReply.{DeskReply, malformed}
+use Rattle.questions.specs.MarkWords.{marksIn}
+use Rattle.questions.specs.Question.{withOne, withTwo, onNumbers, onMarks, longest, replyTo}
+use Rattle.replies.specs.ListText.{yearsRoom}
 use Rattle.replies.specs.ReplyText.{replyText, roomOf, replyReply}
-use Rattle.replies.specs.AnswerText.{asksSheet, answerText, answerRoom, answerReply}
-use Rattle.replies.proofs.Room.{room-most}
+use Rattle.replies.specs.AnswerText.{mostNumbers, answerText, answerRoom, answerReply}
+use Rattle.replies.proofs.ReplyLaws.{room-most}
 
-module _ (line : List ℕ) (room : ℕ) where
-  -- a torn sheet's
-  module _ (sheet : asksSheet line ≡ true) where
-    pub sheet-text : answerText shoushi line ≡ sheetText shoushi (afterWord line)
-    unfolding answerText
-    sheet-text = simp sheet
+-- a number for each year is enough for every list but the months of many years
+on-marks : (m : Reply (List Mark)) → onMarks shoushi (suc lastYear) m ≡ onMarks shoushi mostNumbers m
+unfolding sheetReply
+on-marks (answer marks) = refl
+on-marks (refused k) = refl
 
-    pub sheet-short : room < sheetRoom → answerReply shoushi line room ≡ refused shortRow
-    unfolding answerReply answerRoom
-    sheet-short h = simp (sheet, lt-ltb _ _ h)
+on-numbers : (word rest : List ℕ) (n : Numbers) → (word is "years") ≡ false
+    → onNumbers shoushi (suc lastYear) word rest n ≡ onNumbers shoushi mostNumbers word rest n
+unfolding chosen withOne withTwo termsReply listReply
+on-numbers word rest Nothing other = refl
+on-numbers word rest (One n) other = refl
+on-numbers word rest (Two n i) other = simp other
+on-numbers word rest (Three n i p) other = refl
+on-numbers word rest Other other = refl
 
-    pub sheet-answered : sheetRoom ≤ room → answerReply shoushi line room ≡ answer (length (sheetText shoushi (afterWord line)))
-    unfolding answerReply answerRoom
-    sheet-answered h = simp (sheet, le-ltb _ _ h, sheet-text)
+pub enough : (line : List ℕ) → (wordOf line is "years") ≡ false → replyTo shoushi (suc lastYear) line ≡ replyTo shoushi mostNumbers line
+unfolding replyTo
+enough line other =
+    ap₂ (λ (a b : DeskReply). if longest <? length line then malformed else if wordOf line is "sheet" then a else b)
+    (on-marks (marksIn (afterWord line)))
+    (on-numbers (wordOf line) (afterWord line) (numbersOf (afterWord line)) other)
 
-  -- another's
-  module _ (other : asksSheet line ≡ false) where
-    pub other-text : answerText shoushi line ≡ replyText (replyTo shoushi line)
-    unfolding answerText
-    other-text = simp other
+-- what is written of the reply to a line answers the line
+pub answered-as : {told : DeskReply} (line row : List ℕ) {now : List ℕ} (a : Answer) → told ≡ replyTo shoushi mostNumbers line
+    → (answerSaid a ≡ replyReply told (length row)) × (now ≡ rowAfter (replyReply told (length row)) (replyText told) row)
+    → (answerSaid a ≡ answerReply shoushi line (length row))
+    × (now ≡ rowAfter (answerReply shoushi line (length row)) (answerText shoushi line) row)
+unfolding answerReply answerRoom answerText replyReply
+answered-as line row a e h = rw e at h
 
-    pub other-reply : answerReply shoushi line room ≡ replyReply (replyTo shoushi line) room
-    unfolding answerReply answerRoom replyReply
-    other-reply = simp (other, other-text)
-
-  -- where there is room for the records of all years, every line is answered
-  answer-most : answerRoom shoushi line ≤ yearsRoom
-  unfolding answerRoom
-  answer-most =
-      if-cases (λ (n : ℕ). n ≤ yearsRoom) sheetRoom (roomOf (replyTo shoushi line)) (asksSheet line)
-      (λ _. omega arith)
-      (λ _. room-most (replyTo shoushi line))
-
-  pub answered-whole : yearsRoom ≤ room → answerReply shoushi line room ≡ answer (length (answerText shoushi line))
-  unfolding answerReply
-  answered-whole h = simp (le-ltb room (answerRoom shoushi line) (omega (arith, answer-most)))
+-- where there is room for the records of all years, every line is answered
+pub answered-whole : (line : List ℕ) (room : ℕ) → yearsRoom ≤ room → answerReply shoushi line room ≡ answer (length (answerText shoushi line))
+unfolding answerReply answerRoom
+answered-whole line room h =
+    simp (le-ltb room (roomOf (replyTo shoushi mostNumbers line)) (omega (arith, room-most (replyTo shoushi mostNumbers line))))

@@ -1,4 +1,5 @@
+pub mod LineTextLaws
+pub mod ListTextLaws
 pub mod ReplyLaws
-pub mod Room
 pub mod AnswerLaws
 pub mod Unique

@@ -1,2 +1,4 @@
+pub mod LineText
+pub mod ListText
 pub mod ReplyText
 pub mod AnswerText

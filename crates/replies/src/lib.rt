@@ -1,27 +1,43 @@
-// The line of text that is written for each reply, and for each line that asks.
-use line_texts::put_moment;
-use line_texts::put_month;
-use line_texts::put_signed;
-use measure::Answer;
-use measure::SHORT_ROW;
-use questions::LONGEST;
-use questions::Reply;
-use sheet_texts::SHEET_ROOM;
-use texts::fill;
-ghost use mathlib.Core.Path.{_≡_};
-ghost use mathlib.Core.List.{[], _∷_};
-ghost use Prim.Native.Nat.{_≤_};
-ghost use lib.ListN.{length};
-ghost use Rattle.measure.specs.Reply.{answerSaid};
-ghost use Rattle.measure.specs.Row.{over, rowAfter};
-ghost use Rattle.measure.specs.Epoch.{shoushi};
-ghost use Rattle.questions.specs.Told.{nothing, toldIn};
-ghost use Rattle.line_texts.specs.LineText.{numbersText, lineRoom};
-ghost use Rattle.replies.specs.ReplyText.{constantsText, helpText, replyText, roomOf, replyReply};
-ghost use Rattle.replies.specs.AnswerText.{asksSheet, answerText, answerReply};
+// The line of text that is written for each answer, and for each line that asks.
+mod line_texts;
+mod list_texts;
 
-// Room for one line, and for the records of all years.
+use crate::line_texts::put_days;
+use crate::line_texts::put_hour;
+use crate::line_texts::put_moment;
+use crate::line_texts::put_month;
+use crate::line_texts::put_name;
+use crate::line_texts::put_number;
+use crate::line_texts::put_refusal;
+use crate::line_texts::put_signed;
+use crate::list_texts::put_list;
+use crate::list_texts::put_months;
+use lists::YEAR_NUMBERS;
+use measure::LAST_YEAR;
+use questions::DeskAnswer;
+use rows::Answer;
+use rows::BAD_LINE;
+use rows::SHORT_ROW;
+use texts::fill;
+ghost use mathlib.Core.List.{List};
+ghost use mathlib.Core.Path.{_≡_};
+ghost use Prim.Native.Nat.{ℕ, suc, _≤_};
+ghost use lib.ListN.{length};
+ghost use Rattle.rows.specs.Reply.{answerSaid};
+ghost use Rattle.rows.specs.Row.{over, rowAfter};
+ghost use Rattle.measure.specs.Units.{lastYear};
+ghost use Rattle.measure.specs.Epoch.{shoushi};
+ghost use Rattle.words.specs.Line.{wordOf};
+ghost use Rattle.words.specs.Text.{_is_};
+ghost use Rattle.questions.specs.DeskReply.{deskSaid, Lies};
+ghost use Rattle.replies.specs.LineText.{lineRoom};
+ghost use Rattle.replies.specs.ReplyText.{constantsText, helpText, replyText, roomOf, replyReply};
+ghost use Rattle.replies.specs.AnswerText.{mostNumbers, answerText, answerReply};
+
+// Room for one line, for the line of a sheet's years, and for the records of all years.
 pub const LINE_ROOM: usize = 16_384;
+
+pub const SHEET_ROOM: usize = 65_536;
 
 pub const YEARS_ROOM: usize = 2_097_152;
 
@@ -30,98 +46,82 @@ pub fn write_answer(line: &[u8], row: &mut [u8]) -> Answer
     ensures { λ r. ⌜ answerSaid r ≡ answerReply shoushi (now (line .entry)) (length (now (row .entry))) ⌝ }
     ensures { λ _. ⌜ now (row .exit) ≡ rowAfter (answerReply shoushi (now (line .entry)) (length (now (row .entry)))) (answerText shoushi (now (line .entry))) (now (row .entry)) ⌝ }
 {
-    if asks_sheet(line) {
-        if row.len() < SHEET_ROOM {
-            return Answer::Refused(SHORT_ROW);
-        }
-        return Answer::Number(sheet_texts::put_sheet(words::after_word(line), row) as u64);
+    if asks_years(line) {
+        let mut numbers = all_numbers();
+        let answer = questions::ask(line, &mut numbers);
+        return write_reply(answer, &numbers, row);
     }
-    write_reply(questions::ask(line), row)
+    let mut numbers = year_numbers();
+    let answer = questions::ask(line, &mut numbers);
+    write_reply(answer, &numbers, row)
 }
 
-// Whether a line asks of a torn sheet.
-fn asks_sheet(line: &[u8]) -> bool
-    ensures { λ r. ⌜ r ≡ asksSheet (now (line .entry)) ⌝ }
+// Whether a line may ask for the months of many years: no other list is as long.
+fn asks_years(line: &[u8]) -> bool
+    ensures { λ r. ⌜ r ≡ (wordOf (now (line .entry)) is "years") ⌝ }
 {
-    if line.len() > LONGEST {
-        return false;
-    }
-    check::same(words::word_in(line), b"sheet")
+    check::same(words::word_in(line), b"years")
 }
 
-// The room that a reply asks for.
-pub fn room_for(r: Reply) -> usize
-    ensures { λ n. ⌜ n ≡ roomOf (toldIn r) ⌝ }
+const YEARS: usize = LAST_YEAR as usize + 1;
+
+// Room for a number for each year, and for the months of all. What they hold does not show, so that no proof spells it out.
+fn year_numbers() -> [u64; YEARS]
+    ensures { λ r. ⌜ suc lastYear ≡ length r ⌝ }
 {
-    match r {
-        Reply::Years(_, _) => YEARS_ROOM,
-        _ => LINE_ROOM,
-    }
+    [0; YEARS]
 }
 
-// A reply's line, from the row's start; how many bytes it has. A row without the room that it asks for is refused with 4.
-pub fn write_reply(r: Reply, row: &mut [u8]) -> Answer
-    ensures { λ a. ⌜ answerSaid a ≡ replyReply (toldIn r) (length (now (row .entry))) ⌝ }
-    ensures { λ _. ⌜ now (row .exit) ≡ rowAfter (replyReply (toldIn r) (length (now (row .entry)))) (replyText (toldIn r)) (now (row .entry)) ⌝ }
+fn all_numbers() -> [u64; YEARS * YEAR_NUMBERS]
+    ensures { λ r. ⌜ mostNumbers ≡ length r ⌝ }
+{
+    [0; YEARS * YEAR_NUMBERS]
+}
+
+// An answer's line, from the row's start; how many bytes it has. A row without the room that it asks for is refused with 4.
+fn write_reply(r: DeskAnswer, numbers: &[u64], row: &mut [u8]) -> Answer
+    requires { ⌜ Lies r (length (now numbers)) ⌝ }
+    ensures { λ a. ⌜ answerSaid a ≡ replyReply (deskSaid r (now (numbers .entry))) (length (now (row .entry))) ⌝ }
+    ensures { λ _. ⌜ now (row .exit) ≡ rowAfter (replyReply (deskSaid r (now (numbers .entry))) (length (now (row .entry)))) (replyText (deskSaid r (now (numbers .entry)))) (now (row .entry)) ⌝ }
 {
     if row.len() < room_for(r) {
         return Answer::Refused(SHORT_ROW);
     }
-    Answer::Number(put_reply(r, row) as u64)
+    Answer::Number(put_reply(r, numbers, row) as u64)
 }
 
-fn put_reply(r: Reply, row: &mut [u8]) -> usize
-    requires { ⌜ roomOf (toldIn r) ≤ length (now row) ⌝ }
-    ensures { λ n. ⌜ n ≡ length (replyText (toldIn r)) ⌝ }
-    ensures { λ _. ⌜ now (row .exit) ≡ over (replyText (toldIn r)) (now (row .entry)) ⌝ }
+// The room that an answer's line asks for, whatever its numbers are.
+fn room_for(r: DeskAnswer) -> usize
+    ensures { λ n. ⌜ ((numbers : List ℕ) → n ≡ roomOf (deskSaid r numbers)) ⌝ }
 {
     match r {
-        Reply::Refused(k) => line_texts::put_refusal(k, row),
-        Reply::Nothing => put_nothing(row),
-        Reply::One(a) => put_one(a, row),
-        Reply::Two(a, b) => put_two(a, b, row),
-        Reply::Three(a, b, c) => put_three(a, b, c, row),
-        Reply::Signed(z) => put_signed(z, row),
-        Reply::Month(m) => put_month(m, row),
-        Reply::Moment(t) => put_moment(t, row),
-        Reply::Terms(n) => list_texts::put_terms(n, row),
-        Reply::Year(n) => list_texts::put_year(n, row),
-        Reply::Years(n, k) => list_texts::put_years(n, k, row),
-        Reply::Constants => put_constants(row),
-        Reply::Help => put_help(row),
+        DeskAnswer::Years(_) => YEARS_ROOM,
+        DeskAnswer::Sheet(_) => SHEET_ROOM,
+        _ => LINE_ROOM,
     }
 }
 
-fn put_nothing(row: &mut [u8]) -> usize
-    requires { ⌜ lineRoom ≤ length (now row) ⌝ }
-    ensures { λ n. ⌜ n ≡ length (replyText nothing) ⌝ }
-    ensures { λ _. ⌜ now (row .exit) ≡ over (replyText nothing) (now (row .entry)) ⌝ }
+fn put_reply(r: DeskAnswer, numbers: &[u64], row: &mut [u8]) -> usize
+    requires { ⌜ Lies r (length (now numbers)) × (roomOf (deskSaid r (now numbers)) ≤ length (now row)) ⌝ }
+    ensures { λ n. ⌜ n ≡ length (replyText (deskSaid r (now (numbers .entry)))) ⌝ }
+    ensures { λ _. ⌜ now (row .exit) ≡ over (replyText (deskSaid r (now (numbers .entry)))) (now (row .entry)) ⌝ }
 {
-    fill(b"none\n", &[], row)
-}
-
-fn put_one(a: u64, row: &mut [u8]) -> usize
-    requires { ⌜ lineRoom ≤ length (now row) ⌝ }
-    ensures { λ n. ⌜ n ≡ length (numbersText (a ∷ [])) ⌝ }
-    ensures { λ _. ⌜ now (row .exit) ≡ over (numbersText (a ∷ [])) (now (row .entry)) ⌝ }
-{
-    fill(b"%\n", &[a], row)
-}
-
-fn put_two(a: u64, b: u64, row: &mut [u8]) -> usize
-    requires { ⌜ lineRoom ≤ length (now row) ⌝ }
-    ensures { λ n. ⌜ n ≡ length (numbersText (a ∷ b ∷ [])) ⌝ }
-    ensures { λ _. ⌜ now (row .exit) ≡ over (numbersText (a ∷ b ∷ [])) (now (row .entry)) ⌝ }
-{
-    fill(b"% %\n", &[a, b], row)
-}
-
-fn put_three(a: u64, b: u64, c: u64, row: &mut [u8]) -> usize
-    requires { ⌜ lineRoom ≤ length (now row) ⌝ }
-    ensures { λ n. ⌜ n ≡ length (numbersText (a ∷ b ∷ c ∷ [])) ⌝ }
-    ensures { λ _. ⌜ now (row .exit) ≡ over (numbersText (a ∷ b ∷ c ∷ [])) (now (row .entry)) ⌝ }
-{
-    fill(b"% % %\n", &[a, b, c], row)
+    match r {
+        DeskAnswer::Malformed => put_refusal(BAD_LINE, row),
+        DeskAnswer::Number(a) => put_number(a, row),
+        DeskAnswer::Moment(a) => put_moment(a, row),
+        DeskAnswer::Signed(a) => put_signed(a, row),
+        DeskAnswer::Month(a) => put_month(a, row),
+        DeskAnswer::Name(n) => put_name(n, row),
+        DeskAnswer::Hour(h) => put_hour(h, row),
+        DeskAnswer::Days(d) => put_days(d, row),
+        DeskAnswer::Terms(a) => put_list(a, numbers, row),
+        DeskAnswer::Year(a) => put_months(a, numbers, row),
+        DeskAnswer::Years(a) => put_months(a, numbers, row),
+        DeskAnswer::Sheet(a) => put_list(a, numbers, row),
+        DeskAnswer::Constants => put_constants(row),
+        DeskAnswer::Help => put_help(row),
+    }
 }
 
 fn put_constants(row: &mut [u8]) -> usize

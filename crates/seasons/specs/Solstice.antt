@@ -1,8 +1,8 @@
 -- "The running day count": the winter solstice (000:204-211).
 -- Assumes nothing.
 use Prim.Native.Nat.{ℕ, _+_, _*_}
-use Rattle.measure.specs.Choice.{_<?_}
-use Rattle.measure.specs.Reply.{Reply, answer, noYear, refuseIf}
+use Rattle.rows.specs.Choice.{_<?_}
+use Rattle.rows.specs.Reply.{Reply, answer, noYear, refuseIf}
 use Rattle.measure.specs.Units.{year, lastYear}
 use Rattle.measure.specs.Epoch.{Epoch}
 

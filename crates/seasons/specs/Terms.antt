@@ -3,9 +3,9 @@
 use mathlib.Core.Bool.{Bool, _||_, not}
 use mathlib.Core.List.{List}
 use Prim.Native.Nat.{ℕ, _+_, _*_, _-_}
-use Rattle.measure.specs.Choice.{_≤?_, _<?_, _=?_}
-use Rattle.measure.specs.Reply.{Reply, answer, noYear, outside, shortRow, refuseIf}
-use Rattle.measure.specs.Row.{listed}
+use Rattle.rows.specs.Choice.{_≤?_, _<?_, _=?_}
+use Rattle.rows.specs.Reply.{Reply, answer, noYear, outside, shortRow, refuseIf}
+use Rattle.rows.specs.Row.{listed}
 use Rattle.measure.specs.Units.{termStep, pentadStep, earthStep, lastYear}
 use Rattle.measure.specs.Epoch.{Epoch}
 use Rattle.seasons.specs.Solstice.{solstice}

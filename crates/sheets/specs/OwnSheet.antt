@@ -2,7 +2,7 @@
 -- Assumes nothing.
 use mathlib.Core.List.{List, [], _∷_, _++_}
 use Prim.Native.Nat.{ℕ, zero, suc, _+_}
-use Rattle.measure.specs.Choice.{if_then_else_}
+use Rattle.rows.specs.Choice.{if_then_else_}
 use Rattle.measure.specs.Days.{sixtyName, stem, branch}
 use Rattle.month_law.specs.Calendar.{Calendar, lengthOf, head, leapAt}
 use Rattle.sheets.specs.Marks.{marked}

@@ -2,8 +2,8 @@
 -- Assumes nothing.
 use mathlib.Core.Path.{_≡_, _∙_, refl, sym}
 use lib.IntN.{ℤ}
-use Rattle.measure.specs.Reply.{Reply, answer, refused}
-use Rattle.measure.proofs.Determined.{OneReply, read-back}
+use Rattle.rows.specs.Reply.{Reply, answer, refused}
+use Rattle.rows.proofs.Determined.{OneReply, read-back}
 use Rattle.signed.specs.Signed.{signedSaid}
 use Rattle.signed.specs.declared.SignedAnswer.{SignedAnswer}
 use Rattle.signed.specs.declared.SignedAnswer.the-variants.{Number, Refused}
@@ -14,11 +14,11 @@ use Rattle.signed.proofs.behind.Reads as behind-reads
 use Rattle.signed.proofs.magnitude_of.Kinds as magnitude-of
 use Rattle.signed.proofs.magnitude_of.Reads as magnitude-of-reads
 
-signedMeant : Reply ℤ → SignedAnswer
+pub signedMeant : Reply ℤ → SignedAnswer
 signedMeant (answer z) = Number z
 signedMeant (refused k) = Refused k
 
-signed-back : (a : SignedAnswer) → signedMeant (signedSaid a) ≡ a
+pub signed-back : (a : SignedAnswer) → signedMeant (signedSaid a) ≡ a
 unfolding signedMeant
 signed-back (Number z) = refl
 signed-back (Refused k) = refl

@@ -2,7 +2,7 @@
 -- Assumes nothing.
 use Prim.Native.Nat.{ℕ, _+_}
 use lib.IntN.{ℤ, subℕ}
-use Rattle.measure.specs.Reply.{Reply, answer, refused}
+use Rattle.rows.specs.Reply.{Reply, answer, refused}
 use Rattle.signed.specs.declared.SignedAnswer.{SignedAnswer}
 use Rattle.signed.specs.declared.SignedAnswer.the-variants.{Number, Refused}
 

@@ -11,8 +11,8 @@ use borrow.Author.Tests.{lt-ltb, le-ltb}
 use lib.Dec.{lit<}
 use lib.ListN.{length, length-append}
 use Rattle.io.specs.Digits.{glyph, digits, Fewest}
-use Rattle.measure.specs.Choice.{_<?_}
-use Rattle.measure.proofs.Choice.{lt-or-ge, if-cases, if-lt}
+use Rattle.rows.specs.Choice.{_<?_}
+use Rattle.rows.proofs.Choice.{lt-or-ge, if-cases, if-lt}
 use Rattle.texts.specs.Text.{digit, decimalIn, decimal, mostDigits}
 
 one-digit : (n : ℕ) → glyph (n % 10) ≡ digit (n % 10)

@@ -1,4 +1,4 @@
 pub mod DecimalLaws
 pub mod TextLaws
-pub mod Unique
 pub mod Examples
+pub mod Unique

@@ -4,14 +4,14 @@
 use mathlib.Core.Bool.{Bool, true, false}
 use mathlib.Core.Path.{_≡_, _∙_, refl, sym, ap}
 use mathlib.Core.List.{List, [], _∷_, _++_, append-assoc}
-use Prim.Native.Nat.{ℕ, zero, _+_, _≤_, _<_}
+use Prim.Native.Nat.{ℕ, _+_, _≤_, _<_}
 use native.Mathlib.Nat.{add-zero}
 use native.Mathlib.Numerals.{add-one}
 use native.Mathlib.Omega.{arith}
 use lib.ListN.{length, getD, drop, length-append, length-drop, List·getD-append}
 use lib.Seq.{drop-cons, drop-drop, getD-drop, drop-append-le}
-use Rattle.measure.specs.Choice.{if_then_else_, _=?_}
-use Rattle.measure.proofs.Choice.{if-cases}
+use Rattle.rows.specs.Choice.{if_then_else_, _=?_}
+use Rattle.rows.proofs.Choice.{if-cases}
 use Rattle.texts.specs.Text.{decimal, hole, piece, taken, filled, mostDigits, textRoom}
 use Rattle.texts.proofs.DecimalLaws.{decimal-most}
 

@@ -2,7 +2,7 @@
 -- Assumes nothing.
 use mathlib.Core.Path.{_∙_, sym}
 use denote.Ref.{now}
-use Rattle.measure.proofs.Determined.{OneOutcome, one-answer}
+use Rattle.rows.proofs.Determined.{OneOutcome, one-answer}
 use Rattle.texts.proofs.write_text.Kinds as write-text
 use Rattle.texts.proofs.write_text.Reads as write-text-reads
 use Rattle.texts.proofs.fill.Kinds as fill

@@ -3,8 +3,8 @@
 use mathlib.Core.List.{List, [], _∷_, _++_}
 use Prim.Native.Nat.{ℕ, zero, suc, _+_, _*_, _/_, _%_}
 use lib.ListN.{length, getD, drop}
-use Rattle.measure.specs.Choice.{if_then_else_, _<?_, _=?_}
-use Rattle.measure.specs.Reply.{Reply, answer, shortRow, refuseIf}
+use Rattle.rows.specs.Choice.{if_then_else_, _<?_, _=?_}
+use Rattle.rows.specs.Reply.{Reply, answer, shortRow, refuseIf}
 
 -- the byte of a digit
 abbrev pub digit : ℕ → ℕ

@@ -1,11 +1,11 @@
 // Texts with holes: each % of a template stands for the next number, in decimal.
-use measure::Answer;
-use measure::SHORT_ROW;
+use rows::Answer;
+use rows::SHORT_ROW;
 ghost use mathlib.Core.Path.{_≡_};
 ghost use Prim.Native.Nat.{_≤_};
 ghost use lib.ListN.{length, getD};
-ghost use Rattle.measure.specs.Reply.{answerSaid};
-ghost use Rattle.measure.specs.Row.{over, rowAfter};
+ghost use Rattle.rows.specs.Reply.{answerSaid};
+ghost use Rattle.rows.specs.Row.{over, rowAfter};
 ghost use Rattle.texts.specs.Text.{decimal, piece, taken, filled, mostDigits, textRoom, textReply};
 
 pub const HOLE: u8 = b'%';

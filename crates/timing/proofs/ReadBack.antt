@@ -5,13 +5,13 @@ use mathlib.Core.Path.{_≡_, refl}
 use Prim.Native.Nat.{ℕ, suc, _-_, _*_}
 use native.Mathlib.Omega.{arith}
 use borrow.Author.Tests.{ne-eqb}
-use Rattle.measure.specs.Choice.{if_then_else_, _<?_, _=?_}
-use Rattle.measure.specs.Reply.{Reply, answer, refused, refuseIf}
+use Rattle.rows.specs.Choice.{if_then_else_, _<?_, _=?_}
+use Rattle.rows.specs.Reply.{Reply, answer, refused, refuseIf}
 use Rattle.measure.specs.Units.{lastYear}
 use Rattle.measure.specs.Epoch.{shoushi}
 use Rattle.moons.specs.Lunation.{lastLunation, lastQuarter}
 use Rattle.moons.specs.TrueMoon.{trueReply}
-use Rattle.year_rows.specs.Records.{yearRoom}
+use Rattle.lists.specs.Records.{yearRoom}
 use Rattle.lists.specs.Lists.{runAsked, runReply}
 use Rattle.timing.specs.Timed.{numberTold}
 use Rattle.timing.specs.declared.Timed.{Timed}

@@ -2,7 +2,7 @@
 -- Assumes nothing.
 use mathlib.Core.Path.{_∙_, sym}
 use denote.Ref.{now}
-use Rattle.measure.proofs.Determined.{OneReply, OneOutcome}
+use Rattle.rows.proofs.Determined.{OneReply, OneOutcome}
 use Rattle.timing.proofs.timing_true_moon.Kinds as true-moon
 use Rattle.timing.proofs.timing_true_moon.Reads as true-moon-reads
 use Rattle.timing.proofs.timing_run.Kinds as run

@@ -1,14 +1,14 @@
 // What the benchmarks call: proved functions behind C's interface.
-use measure::Answer;
+use rows::Answer;
 ghost use mathlib.Core.Path.{_≡_};
 ghost use Prim.Native.Nat.{_/_};
 ghost use lib.ListN.{length};
 ghost use Rattle.measure.specs.Epoch.{shoushi};
-ghost use Rattle.measure.specs.Reply.{answerSaid};
-ghost use Rattle.measure.specs.Row.{rowAfter};
+ghost use Rattle.rows.specs.Reply.{answerSaid};
+ghost use Rattle.rows.specs.Row.{rowAfter};
 ghost use Rattle.moons.specs.TrueMoon.{trueReply};
 ghost use Rattle.edition.specs.Edition.{calendar};
-ghost use Rattle.year_rows.specs.Records.{recordWidth};
+ghost use Rattle.lists.specs.Records.{recordWidth};
 ghost use Rattle.lists.specs.Lists.{runOf, runReply};
 ghost use Rattle.timing.specs.Timed.{numberTold};
 

@@ -2,7 +2,7 @@
 -- Assumes nothing.
 use Prim.Native.Nat.{ℕ, _-_, _≤_, _<_}
 use native.Mathlib.Omega.{arith}
-use Rattle.measure.specs.Reply.{Reply, answer, refused}
+use Rattle.rows.specs.Reply.{Reply, answer, refused}
 use Rattle.measure.specs.Epoch.{shoushi}
 use Rattle.month_law.specs.Calendar.{Calendar, monthOf, head, yearOf}
 use Rattle.edition.specs.Edition.{calendar}

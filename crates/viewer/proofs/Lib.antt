@@ -1,3 +1,5 @@
+pub mod ByteLaws
+pub mod BytesBack
 pub mod Fitting
 pub mod YearReply
 pub mod ReadBack

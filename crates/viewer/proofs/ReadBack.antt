@@ -1,31 +1,29 @@
 -- What the viewer is told says the whole reply: months, refusals and records are read back from the structs and the bytes as they were.
 -- So no refusal can be taken for a month, and no place of a number is lost.
 -- Assumes nothing.
-use mathlib.Core.List.{List, [], _∷_, _++_}
 use mathlib.Core.Logic.{⊎-elim}
-use mathlib.Core.Path.{_≡_, refl, sym, ap₂}
-use Prim.Native.Nat.{ℕ, zero, suc, _+_, _*_, _/_, _%_, _≤_, _<_}
-use native.Mathlib.Nat.{div-div-eq-div-mul}
+use mathlib.Core.Path.{_≡_, refl}
+use Prim.Native.Nat.{ℕ, zero, suc, _+_, _≤_, _<_}
 use native.Mathlib.Omega.{arith}
 use borrow.Author.Tests.{ne-eqb}
-use Rattle.measure.specs.Choice.{if_then_else_, _=?_}
-use Rattle.measure.specs.Reply.{Reply, answer, refused}
+use Rattle.rows.specs.Choice.{if_then_else_, _=?_}
+use Rattle.rows.specs.Reply.{Reply, answer, refused}
 use Rattle.measure.specs.Units.{lastYear}
 use Rattle.measure.specs.Epoch.{shoushi}
-use Rattle.measure.proofs.Choice.{lt-or-ge, if-cases}
+use Rattle.rows.proofs.Choice.{lt-or-ge, if-cases}
 use Rattle.month_law.specs.Calendar.{Calendar, monthsIn, head, leapAt, leapMark}
 use Rattle.edition.specs.Edition.{calendar}
 use Rattle.month_law.proofs.Rising.{rises-weakly}
 use Rattle.month_law.proofs.Months.{first-rises}
 use Rattle.edition.proofs.Edition.{figures, shoushi-lawful}
-use Rattle.kinds.specs.Kind.{Kind, ordinary, leap, numberIn, markIn}
+use Rattle.months.specs.Kind.{Kind, ordinary, leap, numberIn, markIn}
 use Rattle.months.specs.Month.{MonthOfDay, dayReply}
-use Rattle.year_rows.specs.Records.{yearRoom, recordAt, recordsOf}
+use Rattle.lists.specs.Records.{yearRoom, recordAt, recordsOf}
 use Rattle.lists.specs.Lists.{listReply}
 use Rattle.months.proofs.Reach.{list-most}
 use Rattle.months.proofs.Sizes.{number-most}
-use Rattle.record_bytes.specs.Bytes.{bytesOf}
-use Rattle.record_bytes.proofs.ReadBack.{numbersRead, Small, small-append, bytes-back}
+use Rattle.viewer.specs.Bytes.{bytesOf}
+use Rattle.viewer.proofs.BytesBack.{numbersRead, Small, small-append, bytes-back}
 use Rattle.viewer.specs.Told.{dayTold, countTold}
 use Rattle.viewer.specs.declared.Day.{Day}
 use Rattle.viewer.specs.declared.Count.{Count}

@@ -8,20 +8,20 @@ use native.Mathlib.Omega.{arith}
 use lib.ListN.{length, take, drop}
 use lib.Seq.{take-at}
 use borrow.Author.Tests.{lt-ltb, le-ltb}
-use Rattle.measure.specs.Reply.{answer, refused, noYear, shortRow, answerSaid}
-use Rattle.measure.specs.Row.{over, rowAfter}
+use Rattle.rows.specs.Reply.{answer, refused, noYear, shortRow, answerSaid}
+use Rattle.rows.specs.Row.{over, rowAfter}
 use Rattle.measure.specs.Units.{lastYear}
 use Rattle.measure.specs.Epoch.{shoushi}
-use Rattle.measure.specs.declared.Answer.{Answer}
-use Rattle.measure.specs.declared.Answer.the-variants.{Number, Refused}
-use Rattle.measure.proofs.Choice.{lt-or-ge}
+use Rattle.rows.specs.declared.Answer.{Answer}
+use Rattle.rows.specs.declared.Answer.the-variants.{Number, Refused}
+use Rattle.rows.proofs.Choice.{lt-or-ge}
 use Rattle.month_law.specs.Calendar.{Calendar, monthsIn}
 use Rattle.edition.specs.Edition.{calendar}
 use Rattle.month_law.proofs.Lists.{months-in-most}
 use Rattle.edition.proofs.Edition.{shoushi-lawful}
-use Rattle.year_rows.specs.Records.{recordWidth, yearRoom, recordsOf}
+use Rattle.lists.specs.Records.{recordWidth, yearRoom, recordsOf}
 use Rattle.lists.specs.Lists.{listReply}
-use Rattle.year_rows.proofs.RecordLaws.{length-records}
+use Rattle.lists.proofs.RecordLaws.{length-records}
 
 abbrev c : Calendar
 c = calendar shoushi

@@ -3,8 +3,8 @@
 use mathlib.Core.List.{List}
 use Prim.Native.Nat.{ℕ, _*_, _/_}
 use lib.ListN.{length}
-use Rattle.year_rows.specs.Records.{recordWidth}
-use Rattle.record_bytes.specs.Bytes.{numberBytes}
+use Rattle.lists.specs.Records.{recordWidth}
+use Rattle.viewer.specs.Bytes.{numberBytes}
 
 -- how many whole records a row of bytes has room for
 unfoldable pub roomIn : List ℕ → ℕ

@@ -1,8 +1,8 @@
 -- What the viewer is told: a reply as a struct of numbers.
 -- Assumes nothing.
 use Prim.Native.Nat.{ℕ, _<_}
-use Rattle.measure.specs.Reply.{Reply, answer, refused}
-use Rattle.kinds.specs.Kind.{numberIn, markIn}
+use Rattle.rows.specs.Reply.{Reply, answer, refused}
+use Rattle.months.specs.Kind.{numberIn, markIn}
 use Rattle.months.specs.Month.{MonthOfDay}
 use Rattle.viewer.specs.declared.Day.{Day}
 use Rattle.viewer.specs.declared.Count.{Count}

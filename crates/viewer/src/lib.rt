@@ -1,24 +1,26 @@
 // What the viewer calls: the month of a day, and the list of a year as bytes.
+mod record_bytes;
+
+use crate::record_bytes::NUMBER_BYTES;
+use crate::record_bytes::put_numbers;
 use lists::YEAR_NUMBERS;
 use lists::YEAR_ROOM;
-use measure::Answer;
-use measure::SHORT_ROW;
+use lists::year_rows::RECORD_WIDTH;
 use months::Month;
-use months::Reply;
-use record_bytes::NUMBER_BYTES;
-use record_bytes::put_numbers;
-use year_rows::RECORD_WIDTH;
+use months::MonthAnswer;
+use rows::Answer;
+use rows::SHORT_ROW;
 ghost use mathlib.Core.Path.{_≡_};
 ghost use Prim.Native.Nat.{_<_};
 ghost use Rattle.measure.specs.Epoch.{shoushi};
-ghost use Rattle.measure.specs.Reply.{answer, refused};
-ghost use Rattle.measure.specs.Row.{rowAfter};
+ghost use Rattle.rows.specs.Reply.{answer, refused};
+ghost use Rattle.rows.specs.Row.{rowAfter};
 ghost use Rattle.month_law.specs.Calendar.{monthsIn};
 ghost use Rattle.edition.specs.Edition.{calendar};
 ghost use Rattle.months.specs.Month.{dayReply, monthSaid};
-ghost use Rattle.year_rows.specs.Records.{recordsOf};
+ghost use Rattle.lists.specs.Records.{recordsOf};
 ghost use Rattle.lists.specs.Lists.{listReply};
-ghost use Rattle.record_bytes.specs.Bytes.{bytesOf};
+ghost use Rattle.viewer.specs.Bytes.{bytesOf};
 ghost use Rattle.viewer.specs.Room.{roomIn};
 ghost use Rattle.viewer.specs.Told.{Fits, dayTold, countTold};
 
@@ -48,8 +50,8 @@ pub extern "C" fn lengadriu_day(d: u64) -> Day
     ensures { λ r. ⌜ r ≡ dayTold (dayReply shoushi d) ⌝ }
 {
     match months::month_of(d) {
-        Reply::Month(m) => month_told(m),
-        Reply::Refused(k) => day_refused(k),
+        MonthAnswer::Month(m) => month_told(m),
+        MonthAnswer::Refused(k) => day_refused(k),
     }
 }
 
@@ -89,8 +91,8 @@ fn month_told(m: Month) -> Day
         place: m.place as u8,
         day: m.day as u8,
         length: m.length as u8,
-        number: kinds::number_in(kind) as u8,
-        leap: kinds::leap_mark(kind) as u8,
+        number: months::kinds::month_number(kind) as u8,
+        leap: months::kinds::leap_mark(kind) as u8,
         refused: 0,
     }
 }

@@ -6,7 +6,7 @@ use mathlib.Core.List.{List, [], _∷_}
 use mathlib.Core.Bool.{Bool, true, false}
 use native.Mathlib.Omega.{arith}
 use lib.ListN.{length}
-use Rattle.measure.specs.Choice.{if_then_else_}
+use Rattle.rows.specs.Choice.{if_then_else_}
 use Rattle.words.specs.Text.{_is_}
 use Rattle.words.specs.Choice.{Choices, chosen, choiceAt}
 

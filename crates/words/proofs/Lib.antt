@@ -1,7 +1,8 @@
-pub mod Chosen
+pub mod Digits
 pub mod Examples
+pub mod Chosen
 pub mod Line
 pub mod Parts
 pub mod Same
-pub mod Unique
 pub mod Within
+pub mod Unique

@@ -5,7 +5,7 @@ use mathlib.Core.List.{List, [], _∷_}
 use mathlib.Core.Bool.{Bool, true, false, false≢true}
 use borrow.Author.Tests.{eqb-true, eq-eqb}
 use lib.Dec.{eqb}
-use Rattle.measure.proofs.Choice.{left-passes, right-passes}
+use Rattle.rows.proofs.Choice.{left-passes, right-passes}
 use Rattle.words.specs.Text.{same}
 
 pub same-equal : (a b : List ℕ) → same a b ≡ true → a ≡ b

@@ -1,11 +1,14 @@
--- The contract of each public function determines its answer. Assumes nothing.
+-- The contract of the public function determines its answer. Assumes nothing.
+use mathlib.Core.Path.{_≡_, _∙_, sym}
 use contract.Lifetimes.{Lfts}
 use borrow.Fn.World.{ArgsD, ResD}
 use borrow.Fn.Kinds.{endedOf}
-use denote.Ref.{now}
 use denote.Triple.Clauses.{AtExit}
-use mathlib.Core.Path.{_≡_, _∙_, sym}
-use Rattle.measure.proofs.Determined.{OneReply}
+use denote.Ref.{now}
+use Rattle.words.proofs.decimals.number_in as number-in
+use Rattle.words.proofs.decimals.number_in.Kinds as number-in-kinds
+use Rattle.words.proofs.decimals.number_in.Reads as number-in-reads
+use Rattle.rows.proofs.Determined.{OneReply}
 use Rattle.words.proofs.word_in as word-in
 use Rattle.words.proofs.word_in.Kinds as word-in-kinds
 use Rattle.words.proofs.word_in.Reads as word-in-reads
@@ -23,6 +26,11 @@ use Rattle.words.proofs.part_in.Reads as part-in-reads
 use Rattle.words.proofs.rest_in as rest-in
 use Rattle.words.proofs.rest_in.Kinds as rest-in-kinds
 use Rattle.words.proofs.rest_in.Reads as rest-in-reads
+
+pub number-in-unique : (κs : Lfts 1) (a : ArgsD number-in.signature κs) (r₁ r₂ : ResD number-in.signature κs)
+    (s₁ s₂ : AtExit (endedOf 1 number-in-kinds.ps number-in-kinds.r) κs)
+    → number-in-reads.Post κs a r₁ s₁ → number-in-reads.Post κs a r₂ s₂ → r₁ ≡ r₂
+number-in-unique κs a r₁ r₂ s₁ s₂ p₁ p₂ = p₁ ∙ sym p₂
 
 pub word-in-unique : (κs : Lfts 1) (a : ArgsD word-in.signature κs) (r₁ r₂ : ResD word-in.signature κs)
     (s₁ s₂ : AtExit (endedOf 1 word-in-kinds.ps word-in-kinds.r) κs)

@@ -3,7 +3,7 @@
 use Prim.Native.Nat.{ℕ, zero, suc}
 use Prim.Native.String.{String}
 use mathlib.Core.List.{List, [], _∷_}
-use Rattle.measure.specs.Choice.{if_then_else_}
+use Rattle.rows.specs.Choice.{if_then_else_}
 use Rattle.words.specs.Text.{_is_}
 
 abbrev pub Choices : Type 0 → Type 0

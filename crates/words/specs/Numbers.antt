@@ -5,11 +5,11 @@ use mathlib.Core.Bool.{Bool, cond}
 use lib.ListN.{length, getD, take, drop}
 use lib.Dec.{eqb}
 use Rattle.bytes.specs.Bytes.{indexOf}
-use Rattle.decimals.specs.declared.Number.{Number}
-use Rattle.decimals.specs.declared.Number.the-variants.{Value, Bad}
+use Rattle.words.specs.declared.decimals.Number.{Number}
+use Rattle.words.specs.declared.decimals.Number.the-variants.{Value, Bad}
 use Rattle.words.specs.declared.Numbers.{Numbers}
 use Rattle.words.specs.declared.Numbers.the-variants.{Nothing, One, Two, Three, Other}
-use Rattle.decimals.specs.Number.{numberOf}
+use Rattle.words.specs.Number.{numberOf}
 
 abbrev pub isEmpty : List ℕ → Bool
 isEmpty s = eqb (length s) 0

@@ -4,7 +4,7 @@ use Prim.Native.Nat.{ℕ, zero, suc}
 use mathlib.Core.List.{List}
 use lib.ListN.{length}
 use Rattle.words.specs.Numbers.{isEmpty, partOf, restOf}
-use Rattle.measure.specs.Choice.{if_then_else_}
+use Rattle.rows.specs.Choice.{if_then_else_}
 use Rattle.words.specs.Text.{same}
 
 -- how many of the first n parts of s stand before the word

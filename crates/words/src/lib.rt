@@ -1,11 +1,13 @@
 // The words and parts of a line of text, and the numbers among them.
-use decimals::Number;
-use decimals::number_in;
+pub mod decimals;
+
+use crate::decimals::Number;
+use crate::decimals::number_in;
 ghost use mathlib.Core.Path.{_≡_};
 ghost use Rattle.words.specs.Line.{wordOf, afterWord};
 ghost use Rattle.words.specs.Numbers.{partOf, restOf, first, second, third, numbersOf};
 ghost use Rattle.words.specs.Place.{placeOf};
-ghost use Rattle.decimals.specs.declared.Number.the-variants.{Value};
+ghost use Rattle.words.specs.declared.decimals.Number.the-variants.{Value};
 
 // Up to three numbers; Other where there are more, or something else.
 pub enum Numbers {

@@ -8,12 +8,6 @@ use lib.Seq.{length-take-le}
 use Rattle.desk.proofs.answer_line.Statement.{statement}
 use Rattle.desk.proofs.answer_line.Tie as tie
 
-answered-requires : tie.Need-answered-requires
-answered-requires c κs = search needs
-
-slice-reshare-prefix-write-out : tie.Need-slice-reshare-prefix-write-out
-slice-reshare-prefix-write-out c = search needs
-
 slice-aggregate-write-out : tie.Need-slice-aggregate-write-out
 slice-aggregate-write-out c =
     let told = c .before .before .before in
@@ -21,22 +15,6 @@ slice-aggregate-write-out c =
     omega (arith, told .answered .kept .1 .0, told .answered .ensures .0) in
     sym (length-take-le _ _ fits)
 
-write-out-requires : tie.Need-write-out-requires
-write-out-requires c κs = search needs
-
-same-length : tie.Need-same-length
-same-length c = search needs
-
-returns : tie.Need-returns
-returns c = search needs
-
 pub answer-line-spec : {M : Type 1} → statement M
 answer-line-spec =
-    tie.close
-    (tie.spec
-    answered-requires
-    slice-reshare-prefix-write-out
-    slice-aggregate-write-out
-    write-out-requires
-    same-length
-    returns)
+    tie.close (tie.spec (search needs) (search needs) slice-aggregate-write-out (search needs) (search needs) (search needs))

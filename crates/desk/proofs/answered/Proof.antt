@@ -5,26 +5,14 @@ use native.Mathlib.Omega.{arith}
 use borrow.Author.Needs.{needs}
 use denote.Ref.{now}
 use lib.ListN.{length}
-use Rattle.measure.specs.Reply.{answer, answerSaid}
-use Rattle.measure.specs.Row.{over}
+use Rattle.rows.specs.Reply.{answer, answerSaid}
+use Rattle.rows.specs.Row.{over}
 use Rattle.measure.specs.Epoch.{shoushi}
-use Rattle.measure.proofs.Row.{over-least}
+use Rattle.rows.proofs.Row.{over-least}
 use Rattle.replies.specs.AnswerText.{answerText}
 use Rattle.replies.proofs.AnswerLaws.{answered-whole}
 use Rattle.desk.proofs.answered.Statement.{statement}
 use Rattle.desk.proofs.answered.Tie as tie
-
-write-answer-requires : tie.Need-write-answer-requires
-write-answer-requires c κs = search needs
-
-enum-known-n : tie.Need-enum-known-n
-enum-known-n c = search needs
-
-enum-told : tie.Need-enum-told
-enum-told c = search needs
-
-same-length : tie.Need-same-length
-same-length c = search needs
 
 -- the buffer has room for every reply
 returns : tie.Need-returns
@@ -35,9 +23,6 @@ returns c =
     let never = sym (ap answerSaid (c .enum-told .given .1)) ∙ write .write-answer .ensures .0 ∙ room in
     let z : _≡_ {A = ℕ} 0 1 = cc in
     absurd (omega arith)
-
-same-length-2 : tie.Need-same-length-2
-same-length-2 c = search needs
 
 returns-2 : tie.Need-returns-2
 returns-2 c =
@@ -53,4 +38,4 @@ returns-2 c =
 
 pub answered-spec : {M : Type 1} → statement M
 answered-spec =
-    tie.close (tie.spec write-answer-requires enum-known-n enum-told same-length returns same-length-2 returns-2)
+    tie.close (tie.spec (search needs) (search needs) (search needs) (search needs) returns (search needs) returns-2)

@@ -11,12 +11,6 @@ use Rattle.desk.proofs.Kept.{over-itself}
 use Rattle.desk.proofs.blank_before.Statement.{statement}
 use Rattle.desk.proofs.blank_before.Tie as tie
 
-keep-requires : tie.Need-keep-requires
-keep-requires c κs = search needs
-
-same-length : tie.Need-same-length
-same-length c = search needs
-
 returns : tie.Need-returns
 returns c =
     let kept = c .before .before in
@@ -31,4 +25,5 @@ returns-2 c =
     (omega arith, (simp none (sym (length-take-le (a .n) (now (a .line)) fits)), simp none (over-itself (a .n) (now (a .line)) fits)))
 
 pub blank-before-spec : {M : Type 1} → statement M
-blank-before-spec = tie.close (tie.spec keep-requires same-length returns returns-2)
+blank-before-spec =
+    tie.close (tie.spec (search needs) (search needs) returns returns-2)

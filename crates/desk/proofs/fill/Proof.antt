@@ -6,19 +6,11 @@ use Rattle.reads.specs.Given.{Within}
 use Rattle.desk.proofs.fill.Statement.{statement}
 use Rattle.desk.proofs.fill.Tie as tie
 
-read-requires : tie.Need-read-requires
-read-requires c κs = search needs
-
-given-requires : tie.Need-given-requires
-given-requires c κs = search needs
-
-same-length : tie.Need-same-length
-same-length c = search needs
-
 returns : tie.Need-returns
 returns c =
     let read = c .before .before .before .before in
     subst (λ (n : ℕ). Within (c .given .result) n) (read .read .kept .1 .0) (c .given .ensures .1)
 
 pub fill-spec : {M : Type 1} → statement M
-fill-spec = tie.close (tie.spec read-requires given-requires same-length returns)
+fill-spec =
+    tie.close (tie.spec (search needs) (search needs) (search needs) returns)

@@ -7,7 +7,7 @@ use borrow.Rule.Slice.PartMut.{take-put}
 use borrow.Author.Needs.{needs}
 use lib.ListN.{length, take}
 use lib.Seq.{take-take, length-take-le}
-use Rattle.measure.proofs.Row.{written}
+use Rattle.rows.proofs.Row.{written}
 use Rattle.desk.specs.Input.{Begins}
 use Rattle.desk.proofs.join.Statement.{statement}
 use Rattle.desk.proofs.join.Tie as tie
@@ -17,30 +17,6 @@ begins : (r from : ℕ) (exit after first : List ℕ) → from ≤ r → from �
 begins r from exit after first more fits e stays =
     let long : length first ≡ from = sym (ap length e) ∙ length-take-le from after fits in
     ap (λ (k : ℕ). take k (take r exit)) long ∙ take-take from r exit more ∙ stays ∙ e
-
-blank-before-requires : tie.Need-blank-before-requires
-blank-before-requires c κs = search needs
-
-sub-arg : tie.Need-sub-arg
-sub-arg c = search needs
-
-part-arg-start : tie.Need-part-arg-start
-part-arg-start c = search needs
-
-part-arg-end : tie.Need-part-arg-end
-part-arg-end c = search needs
-
-arg-requires : tie.Need-arg-requires
-arg-requires c κs = search needs
-
-errno-requires : tie.Need-errno-requires
-errno-requires c κs = search needs
-
-with-argument-requires : tie.Need-with-argument-requires
-with-argument-requires c κs = search needs
-
-same-length : tie.Need-same-length
-same-length c = search needs
 
 returns : tie.Need-returns
 returns c =
@@ -56,13 +32,5 @@ returns c =
 pub join-spec : {M : Type 1} → statement M
 join-spec =
     tie.close
-    (tie.spec
-    blank-before-requires
-    sub-arg
-    part-arg-start
-    part-arg-end
-    arg-requires
-    errno-requires
-    with-argument-requires
-    same-length
-    returns)
+    (tie.spec (search needs) (search needs) (search needs) (search needs) (search needs) (search needs) (search needs)
+    (search needs) returns)

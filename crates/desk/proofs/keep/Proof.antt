@@ -7,8 +7,8 @@ use borrow.Author.Needs.{needs}
 use lib.ListN.{length, take, set, length-append}
 use lib.Seq.{take-at, take-all, length-take-le}
 use denote.Ref.{now}
-use Rattle.measure.specs.Row.{over}
-use Rattle.measure.proofs.Row.{put}
+use Rattle.rows.specs.Row.{over}
+use Rattle.rows.proofs.Row.{put}
 use Rattle.desk.specs.Input.{withMore}
 use Rattle.desk.proofs.Kept.{over-itself}
 use Rattle.desk.proofs.keep.Statement.{statement}
@@ -35,15 +35,6 @@ module _ (line : List ℕ) (k b : ℕ) (fits : k ≤ length line) where
       sym (take-at (take k line) (b ∷ []) (length line) (omega (arith, begun))) in
       (sym begun ∙ ap length all, over-itself k line fits ∙ ap (λ (l : List ℕ). over l line) all)
 
-slice-write-line : tie.Need-slice-write-line
-slice-write-line c = search needs
-
-add-result : tie.Need-add-result
-add-result c = search needs
-
-same-length : tie.Need-same-length
-same-length c = search needs
-
 returns : tie.Need-returns
 returns c =
     let a = c .before .args in
@@ -57,4 +48,5 @@ returns-2 c =
     (omega arith, (e .0, e .1))
 
 pub keep-spec : {M : Type 1} → statement M
-keep-spec = tie.close (tie.spec slice-write-line add-result same-length returns returns-2)
+keep-spec =
+    tie.close (tie.spec (search needs) (search needs) (search needs) returns returns-2)

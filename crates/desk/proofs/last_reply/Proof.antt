@@ -6,7 +6,7 @@ use native.Mathlib.Omega.{arith}
 use borrow.Author.Needs.{needs}
 use denote.Ref.{now}
 use lib.ListN.{length}
-use Rattle.measure.specs.Row.{over}
+use Rattle.rows.specs.Row.{over}
 use Rattle.desk.proofs.Kept.{no-line, a-line}
 use Rattle.desk.proofs.last_reply.Statement.{statement}
 use Rattle.desk.proofs.last_reply.Tie as tie
@@ -17,12 +17,6 @@ returns c =
     let a = c .before .before .before .args in
     let none = no-line (now (a .line)) (c .if1 .taken) in
     (omega arith, (sym (ap length none), sym (ap (λ (l : List ℕ). over l (now (a .buf))) none)))
-
-answered-requires : tie.Need-answered-requires
-answered-requires c κs = search needs
-
-same-length : tie.Need-same-length
-same-length c = search needs
 
 returns-2 : tie.Need-returns-2
 returns-2 c =
@@ -37,4 +31,5 @@ returns-2 c =
     )
 
 pub last-reply-spec : {M : Type 1} → statement M
-last-reply-spec = tie.close (tie.spec returns answered-requires same-length returns-2)
+last-reply-spec =
+    tie.close (tie.spec returns (search needs) (search needs) returns-2)

@@ -22,9 +22,6 @@ module _ (from got room : ℕ) where
   some (pos k) h = simp (ne-eqb k 0 (λ e. h (ap (λ (x : ℕ). ofZ w32 (pos x)) e)))
   some (negsuc k) h = refl
 
-add-result : tie.Need-add-result
-add-result c = search needs
-
 returns : tie.Need-returns
 returns c =
     let a = c .before .args in
@@ -36,4 +33,5 @@ returns-2 c =
     (some (a .from) (a .got) (a .room) (a .error) (c .if1 .left), (omega arith, omega arith))
 
 pub with-argument-spec : {M : Type 1} → statement M
-with-argument-spec = tie.close (tie.spec add-result returns returns-2)
+with-argument-spec =
+    tie.close (tie.spec (search needs) returns returns-2)

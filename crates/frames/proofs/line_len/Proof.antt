@@ -16,12 +16,6 @@ Inv-loop input n₀ n = (n ≤ length input) × (lineLength input ≡ n + lineLe
 abbrev μ-loop : tie.MeasureT-loop
 μ-loop input n₀ n = length input - n
 
-loop-holds : tie.Need-loop-holds Inv-loop μ-loop
-loop-holds c = omega arith
-
-shared-slice-read-if1 : tie.Need-shared-slice-read-if1 Inv-loop μ-loop
-shared-slice-read-if1 c = omega arith
-
 returns : tie.Need-returns Inv-loop μ-loop
 returns c =
     let at = c .before .before .before in
@@ -29,12 +23,6 @@ returns c =
     let e : lineLength (drop (at .loop .n) input) ≡ 0 =
     length-step input (at .loop .n) (omega arith) ∙ simp (eq-eqb _ _ (c .if1 .taken)) in
     omega arith
-
-add-n : tie.Need-add-n Inv-loop μ-loop
-add-n c = omega arith
-
-loop-less : tie.Need-loop-less Inv-loop μ-loop
-loop-less c = omega arith
 
 loop-again : tie.Need-loop-again Inv-loop μ-loop
 loop-again c =
@@ -55,13 +43,5 @@ returns-2 c =
 pub line-len-spec : {M : Type 1} → statement M
 line-len-spec =
     tie.close
-    (tie.spec
-    Inv-loop
-    μ-loop
-    loop-holds
-    shared-slice-read-if1
-    returns
-    add-n
-    loop-less
-    loop-again
+    (tie.spec Inv-loop μ-loop (λ c. omega arith) (λ c. omega arith) returns (λ c. omega arith) (λ c. omega arith) loop-again
     returns-2)

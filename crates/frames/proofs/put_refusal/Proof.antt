@@ -1,12 +1,12 @@
 -- `frames::put_refusal` meets its contract. Assumes nothing.
-use mathlib.Core.Path.{_≡_, _∙_, refl, ap}
+use mathlib.Core.Path.{_∙_, refl, ap}
 use mathlib.Core.List.{[], _∷_, _++_}
 use Prim.Native.Nat.{_≤_}
 use native.Mathlib.Omega.{arith}
 use borrow.Author.Needs.{needs}
 use denote.Ref.{now}
 use lib.ListN.{length, length-append}
-use Rattle.measure.proofs.Row.{put, grow, length-over}
+use Rattle.rows.proofs.Row.{put, grow, length-over}
 use Rattle.frames.specs.LineEnds.{lineEnd}
 use Rattle.frames.specs.Digits.{digitsOf}
 use Rattle.frames.specs.MonthLine.{refusalLine}
@@ -14,24 +14,6 @@ use Rattle.frames.proofs.DigitLaws.{length-digits}
 use Rattle.frames.proofs.MonthLineLaws.{refusal-length}
 use Rattle.frames.proofs.put_refusal.Statement.{statement}
 use Rattle.frames.proofs.put_refusal.Tie as tie
-
-put-digits-requires : tie.Need-put-digits-requires
-put-digits-requires c κs = search needs
-
-sub-put-digits : tie.Need-sub-put-digits
-sub-put-digits c = search needs
-
-part-put-digits-start : tie.Need-part-put-digits-start
-part-put-digits-start c = search needs
-
-part-put-digits-end : tie.Need-part-put-digits-end
-part-put-digits-end c = search needs
-
-put-digits-requires-2 : tie.Need-put-digits-requires-2
-put-digits-requires-2 c κs = search needs
-
-slice-write-out : tie.Need-slice-write-out
-slice-write-out c = search needs
 
 returns : tie.Need-returns
 unfolding refusalLine
@@ -57,12 +39,4 @@ same-length c =
 pub put-refusal-spec : {M : Type 1} → statement M
 put-refusal-spec =
     tie.close
-    (tie.spec
-    put-digits-requires
-    sub-put-digits
-    part-put-digits-start
-    part-put-digits-end
-    put-digits-requires-2
-    slice-write-out
-    same-length
-    returns)
+    (tie.spec (search needs) (search needs) (search needs) (search needs) (search needs) (search needs) same-length returns)

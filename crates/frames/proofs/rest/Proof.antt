@@ -10,21 +10,6 @@ use Rattle.frames.specs.LineEnds.{restAfter}
 use Rattle.frames.proofs.rest.Statement.{statement}
 use Rattle.frames.proofs.rest.Tie as tie
 
-add-result : tie.Need-add-result
-add-result c = search needs
-
-sub-result : tie.Need-sub-result
-sub-result c = omega arith
-
-part-result-start : tie.Need-part-result-start
-part-result-start c = omega arith
-
-part-result-end : tie.Need-part-result-end
-part-result-end c = search needs
-
-slice-aggregate-result : tie.Need-slice-aggregate-result
-slice-aggregate-result c = search needs
-
 returns : tie.Need-returns
 unfolding restAfter
 returns c =
@@ -41,12 +26,4 @@ returns-2 c =
 
 pub rest-spec : {M : Type 1} → statement M
 rest-spec =
-    tie.close
-    (tie.spec
-    add-result
-    sub-result
-    part-result-start
-    part-result-end
-    slice-aggregate-result
-    returns
-    returns-2)
+    tie.close (tie.spec (search needs) (λ c. omega arith) (λ c. omega arith) (search needs) (search needs) returns returns-2)

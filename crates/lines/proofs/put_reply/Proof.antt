@@ -1,18 +1,17 @@
 -- `lines::put_reply` meets its contract. Assumes nothing.
 use mathlib.Core.Path.{_≡_, _∙_, sym, ap, subst}
-use mathlib.Core.List.{_++_}
 use native.Mathlib.Omega.{arith}
 use borrow.Author.Needs.{needs}
 use denote.Ref.{now}
 use lib.ListN.{length}
-use Rattle.measure.specs.Reply.{Reply, answer, refused, noDay, badLine, answerSaid}
+use Rattle.rows.specs.Reply.{answer, refused, noDay, badLine, answerSaid}
 use Rattle.measure.specs.Epoch.{shoushi}
-use Rattle.months.specs.Month.{MonthOfDay, monthSaid, replySaid}
+use Rattle.months.specs.Month.{monthSaid, monthAnswerSaid}
 use Rattle.frames.specs.DayLine.{dayDigits, dayAsked}
 use Rattle.frames.specs.MonthLine.{lineOf}
 use Rattle.frames.proofs.MonthLineLaws.{month-line-length, refusal-line-length}
 use Rattle.frames.proofs.FitLaws.{LineFits}
-use Rattle.lines.specs.Line.{lineReply, replyLine}
+use Rattle.lines.specs.Line.{lineReply}
 use Rattle.lines.proofs.LineLaws.{bad-line, asked-reply, outside-day, line-fits, written-as}
 use Rattle.lines.proofs.put_reply.Statement.{statement}
 use Rattle.lines.proofs.put_reply.Tie as tie
@@ -29,7 +28,7 @@ day c = sym (c .before .before .before .day-asked .ensures) ∙ ap answerSaid (c
 outside : (c : tie.After-enum-told2)
     → lineReply shoushi (now (c .before .before .before .before .before .before .before .before .before .args .line)) ≡ refused noDay
 outside c =
-    outside-day shoushi _ _ _ (day (c .before .before .before)) (sym (c .before .before .month-of .ensures) ∙ ap replySaid (c .enum-told2 .given .1))
+    outside-day shoushi _ _ _ (day (c .before .before .before)) (sym (c .before .before .month-of .ensures) ∙ ap monthAnswerSaid (c .enum-told2 .given .1))
 
 -- or in a month
 month : (c : tie.After-known-told2)
@@ -37,23 +36,11 @@ month : (c : tie.After-known-told2)
     ≡ answer (monthSaid (c .before .month .given .0 .0))
 month c =
     asked-reply shoushi _ _ (day (c .before .before .before .before))
-    ∙ sym (c .before .before .before .month-of .ensures) ∙ ap replySaid (c .before .month .given .1)
-
-day-asked-requires : tie.Need-day-asked-requires
-day-asked-requires c κs = search needs
-
-enum-known-day : tie.Need-enum-known-day
-enum-known-day c = search needs
-
-enum-told : tie.Need-enum-told
-enum-told c = search needs
+    ∙ sym (c .before .before .before .month-of .ensures) ∙ ap monthAnswerSaid (c .before .month .given .1)
 
 put-refusal-requires : tie.Need-put-refusal-requires
 put-refusal-requires c κs =
     omega (arith, ap length (written-as shoushi _ _ (bad (c .before))), refusal-line-length dayDigits badLine)
-
-same-length : tie.Need-same-length
-same-length c = search needs
 
 returns : tie.Need-returns
 unfolding lineOf
@@ -62,21 +49,9 @@ returns c =
     rw (written-as shoushi _ _ (bad (put .before .before)))
     (put .put-refusal .ensures .0 ∙ sym (refusal-line-length dayDigits badLine), put .put-refusal .ensures .1)
 
-month-of-requires : tie.Need-month-of-requires
-month-of-requires c κs = search needs
-
-enum-known-month : tie.Need-enum-known-month
-enum-known-month c = search needs
-
-enum-told-2 : tie.Need-enum-told-2
-enum-told-2 c = search needs
-
 put-refusal-requires-2 : tie.Need-put-refusal-requires-2
 put-refusal-requires-2 c κs =
     omega (arith, ap length (written-as shoushi _ _ (outside (c .before))), refusal-line-length dayDigits noDay)
-
-same-length-2 : tie.Need-same-length-2
-same-length-2 c = search needs
 
 returns-2 : tie.Need-returns-2
 unfolding lineOf
@@ -92,9 +67,6 @@ put-month-requires c κs =
       subst (LineFits dayDigits) (month (c .before)) (line-fits _),
     )
 
-same-length-3 : tie.Need-same-length-3
-same-length-3 c = search needs
-
 returns-3 : tie.Need-returns-3
 unfolding lineOf
 returns-3 c =
@@ -106,19 +78,5 @@ returns-3 c =
 pub put-reply-spec : {M : Type 1} → statement M
 put-reply-spec =
     tie.close
-    (tie.spec
-    day-asked-requires
-    enum-known-day
-    enum-told
-    put-refusal-requires
-    same-length
-    returns
-    month-of-requires
-    enum-known-month
-    enum-told-2
-    put-refusal-requires-2
-    same-length-2
-    returns-2
-    put-month-requires
-    same-length-3
-    returns-3)
+    (tie.spec (search needs) (search needs) (search needs) put-refusal-requires (search needs) returns (search needs)
+    (search needs) (search needs) put-refusal-requires-2 (search needs) returns-2 put-month-requires (search needs) returns-3)

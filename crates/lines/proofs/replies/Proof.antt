@@ -6,7 +6,7 @@ use borrow.Author.Tests.{lt-ltb, le-ltb}
 use borrow.Author.Needs.{needs}
 use denote.Ref.{now}
 use lib.ListN.{length}
-use Rattle.measure.specs.Reply.{answer}
+use Rattle.rows.specs.Reply.{answer}
 use Rattle.lines.specs.Line.{replyRoom, outputReply}
 use Rattle.lines.proofs.replies.Statement.{statement}
 use Rattle.lines.proofs.replies.Tie as tie
@@ -18,12 +18,6 @@ returns c =
     let short : length (now (a .out)) < replyRoom * length (now (a .input)) = omega arith in
     (simp (lt-ltb _ _ short), simp (lt-ltb _ _ short))
 
-write-replies-requires : tie.Need-write-replies-requires
-write-replies-requires c κs = search needs
-
-same-length : tie.Need-same-length
-same-length c = search needs
-
 returns-2 : tie.Need-returns-2
 unfolding outputReply
 returns-2 c =
@@ -33,4 +27,5 @@ returns-2 c =
     (simp (le-ltb _ _ room) (ap answer (at .write-replies .ensures .0)), simp (le-ltb _ _ room) (at .write-replies .ensures .1))
 
 pub replies-spec : {M : Type 1} → statement M
-replies-spec = tie.close (tie.spec returns write-replies-requires same-length returns-2)
+replies-spec =
+    tie.close (tie.spec returns (search needs) (search needs) returns-2)

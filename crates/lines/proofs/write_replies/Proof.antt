@@ -7,7 +7,7 @@ use borrow.Rule.Slice.PartMut.{same-len-mid}
 use denote.Ref.{now}
 use lib.ListN.{length, take, length-take, length-drop}
 use lib.Seq.{length-take-le}
-use Rattle.measure.specs.Row.{over}
+use Rattle.rows.specs.Row.{over}
 use Rattle.measure.specs.Epoch.{shoushi}
 use Rattle.frames.proofs.LineEndLaws.{length-most, rest-length}
 use Rattle.lines.specs.Line.{output, replyRoom}
@@ -36,15 +36,6 @@ slice-aggregate-put-reply c =
     let left = now (c .before .before .before .loop .left) in
     let h : c .before .line-len .result ≤ length left = omega (arith, length-most left) in
     sym (length-take-le _ left h)
-
-sub-put-reply : tie.Need-sub-put-reply Inv-loop μ-loop
-sub-put-reply c = omega arith
-
-part-put-reply-start : tie.Need-part-put-reply-start Inv-loop μ-loop
-part-put-reply-start c = omega arith
-
-part-put-reply-end : tie.Need-part-put-reply-end Inv-loop μ-loop
-part-put-reply-end c = omega arith
 
 put-reply-requires : tie.Need-put-reply-requires Inv-loop μ-loop
 put-reply-requires c κs =
@@ -105,19 +96,5 @@ returns c =
 pub write-replies-spec : {M : Type 1} → statement M
 write-replies-spec =
     tie.close
-    (tie.spec
-    Inv-loop
-    μ-loop
-    loop-holds
-    line-len-requires
-    slice-aggregate-put-reply
-    sub-put-reply
-    part-put-reply-start
-    part-put-reply-end
-    put-reply-requires
-    add-used
-    rest-requires
-    loop-less
-    loop-again
-    same-length
-    returns)
+    (tie.spec Inv-loop μ-loop loop-holds line-len-requires slice-aggregate-put-reply (λ c. omega arith) (λ c. omega arith)
+    (λ c. omega arith) put-reply-requires add-used rest-requires loop-less loop-again same-length returns)

@@ -6,12 +6,6 @@ use Rattle.lists.proofs.Asked.{reply-of-one, run-of-one}
 use Rattle.lists.proofs.list.Statement.{statement}
 use Rattle.lists.proofs.list.Tie as tie
 
-run-requires : tie.Need-run-requires
-run-requires c κs = search needs
-
-same-length : tie.Need-same-length
-same-length c = search needs
-
 returns : tie.Need-returns
 returns c =
     let run = c .before .before .run in
@@ -19,4 +13,5 @@ returns c =
     (rw (← reply-of-one shoushi (a .n) _) (run .ensures .0), rw (← reply-of-one shoushi (a .n) _, ← run-of-one (calendar shoushi) (a .n)) (run .ensures .1))
 
 pub list-spec : {M : Type 1} → statement M
-list-spec = tie.close (tie.spec run-requires same-length returns)
+list-spec =
+    tie.close (tie.spec (search needs) (search needs) returns)

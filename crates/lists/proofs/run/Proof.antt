@@ -4,10 +4,10 @@ use Prim.Native.Nat.{_/_}
 use lib.ListN.{length}
 use borrow.Author.Needs.{needs}
 use denote.Ref.{now}
-use Rattle.measure.specs.Reply.{answer}
+use Rattle.rows.specs.Reply.{answer}
 use Rattle.measure.specs.Epoch.{shoushi}
 use Rattle.edition.specs.Edition.{calendar}
-use Rattle.year_rows.specs.Records.{recordWidth}
+use Rattle.lists.specs.Records.{recordWidth}
 use Rattle.lists.specs.Lists.{monthsInRun, runReply}
 use Rattle.lists.proofs.Asked.{Admitted, said-as, run-refused, run-admitted}
 use Rattle.lists.proofs.run.Statement.{statement}
@@ -23,25 +23,10 @@ admitted c =
     run-admitted (a .n) (a .count) (at .before .room .result) (a .count) _
     (said-as (at .run-asked .result) _ (at .run-asked .ensures) (c .enum-told .given .1))
 
-room-requires : tie.Need-room-requires
-room-requires c κs = search needs
-
-run-asked-requires : tie.Need-run-asked-requires
-run-asked-requires c κs = search needs
-
-enum-known-k : tie.Need-enum-known-k
-enum-known-k c = search needs
-
-enum-told : tie.Need-enum-told
-enum-told c = search needs
-
 write-years-requires : tie.Need-write-years-requires
 write-years-requires c κs =
     let ok = admitted (c .before) in
     (ok .within, rw (c .before .before .before .before .room .ensures) at (ok .fits))
-
-same-length : tie.Need-same-length
-same-length c = search needs
 
 returns : tie.Need-returns
 returns c =
@@ -50,9 +35,6 @@ returns c =
     let asked = said-as (at .run-asked .result) _ (at .run-asked .ensures) (c .before .k .given .1) in
     let refusal = rw (at .before .room .ensures) at (run-refused (a .n) (a .count) (at .before .room .result) shoushi _ (a .count) asked) in
     (refusal, rw (← refusal))
-
-same-length-2 : tie.Need-same-length-2
-same-length-2 c = search needs
 
 returns-2 : tie.Need-returns-2
 unfolding runReply
@@ -68,13 +50,5 @@ returns-2 c =
 pub run-spec : {M : Type 1} → statement M
 run-spec =
     tie.close
-    (tie.spec
-    room-requires
-    run-asked-requires
-    enum-known-k
-    enum-told
-    write-years-requires
-    same-length
-    returns
-    same-length-2
-    returns-2)
+    (tie.spec (search needs) (search needs) (search needs) (search needs) write-years-requires (search needs) returns
+    (search needs) returns-2)

@@ -13,19 +13,10 @@ returns-2 : tie.Need-returns-2
 unfolding runAsked
 returns-2 c = simp (ne-eqb _ _ (c .before .if1 .left), lt-ltb _ _ (c .if2 .taken))
 
-add-if3 : tie.Need-add-if3
-add-if3 c = search needs
-
-sub-if3 : tie.Need-sub-if3
-sub-if3 c = search needs
-
 returns-3 : tie.Need-returns-3
 unfolding runAsked
 returns-3 c =
     simp (ne-eqb _ _ (c .before .before .if1 .left), le-ltb _ _ (c .before .if2 .left), lt-ltb _ _ (c .if3 .taken))
-
-mul-if4 : tie.Need-mul-if4
-mul-if4 c = search needs
 
 returns-4 : tie.Need-returns-4
 unfolding runAsked
@@ -50,4 +41,5 @@ returns-5 c =
     )
 
 pub run-asked-spec : {M : Type 1} → statement M
-run-asked-spec = tie.close (tie.spec returns returns-2 add-if3 sub-if3 returns-3 mul-if4 returns-4 returns-5)
+run-asked-spec =
+    tie.close (tie.spec returns returns-2 (search needs) (search needs) returns-3 (search needs) returns-4 returns-5)

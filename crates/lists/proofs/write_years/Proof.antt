@@ -6,12 +6,12 @@ use borrow.Rule.Slice.PartMut.{same-len-mid}
 use lib.ListN.{length, length-take, length-drop}
 use denote.Ref.{now}
 use Rattle.measure.specs.Epoch.{shoushi}
-use Rattle.measure.specs.Row.{over}
+use Rattle.rows.specs.Row.{over}
 use Rattle.month_law.specs.Calendar.{Calendar}
 use Rattle.edition.specs.Edition.{calendar}
 use Rattle.edition.proofs.Edition.{shoushi-lawful}
 use Rattle.month_law.proofs.Lists.{months-in-most}
-use Rattle.year_rows.specs.Records.{recordWidth}
+use Rattle.lists.specs.Records.{recordWidth}
 use Rattle.lists.specs.Lists.{runOf, monthsInRun}
 use Rattle.months.proofs.Spans.{months-between, head-later}
 use Rattle.lists.proofs.RunList.{Running, run-begins, run-room, run-goes-on}
@@ -27,31 +27,10 @@ Inv-loop n count row₀ start₀ months₀ k₀ row start months k = (k ≤ coun
 abbrev μ-loop : tie.MeasureT-loop
 μ-loop n count row₀ start₀ months₀ k₀ row start months k = count - k
 
-head-span-requires : tie.Need-head-span-requires Inv-loop μ-loop
-head-span-requires c κs = omega arith
-
 loop-holds : tie.Need-loop-holds Inv-loop μ-loop
 loop-holds c =
     let a = c .before .before .args in
     (omega arith, run-begins cal (a .n) (now (a .row)) (c .head-span .result) (c .head-span .ensures))
-
-mul-used : tie.Need-mul-used Inv-loop μ-loop
-mul-used c = omega arith
-
-add-write-year : tie.Need-add-write-year Inv-loop μ-loop
-add-write-year c = omega arith
-
-mul-write-year : tie.Need-mul-write-year Inv-loop μ-loop
-mul-write-year c = omega arith
-
-sub-write-year : tie.Need-sub-write-year Inv-loop μ-loop
-sub-write-year c = omega arith
-
-part-write-year-start : tie.Need-part-write-year-start Inv-loop μ-loop
-part-write-year-start c = omega arith
-
-part-write-year-end : tie.Need-part-write-year-end Inv-loop μ-loop
-part-write-year-end c = omega arith
 
 write-year-requires : tie.Need-write-year-requires Inv-loop μ-loop
 write-year-requires c κs =
@@ -83,12 +62,6 @@ add-months c =
       months-between cal n (b .loop .start) (write .result) (b .loop .inv .1 .right) (write .ensures .0),
       months-in-most cal shoushi-lawful n,
     )
-
-add-k : tie.Need-add-k Inv-loop μ-loop
-add-k c = omega arith
-
-loop-less : tie.Need-loop-less Inv-loop μ-loop
-loop-less c = omega arith
 
 loop-again : tie.Need-loop-again Inv-loop μ-loop
 loop-again c =
@@ -122,22 +95,6 @@ returns c =
 pub write-years-spec : {M : Type 1} → statement M
 write-years-spec =
     tie.close
-    (tie.spec
-    Inv-loop
-    μ-loop
-    head-span-requires
-    loop-holds
-    mul-used
-    add-write-year
-    mul-write-year
-    sub-write-year
-    part-write-year-start
-    part-write-year-end
-    write-year-requires
-    sub-months
-    add-months
-    add-k
-    loop-less
-    loop-again
-    same-length
-    returns)
+    (tie.spec Inv-loop μ-loop (λ c κs. omega arith) loop-holds (λ c. omega arith) (λ c. omega arith) (λ c. omega arith)
+    (λ c. omega arith) (λ c. omega arith) (λ c. omega arith) write-year-requires sub-months add-months (λ c. omega arith)
+    (λ c. omega arith) loop-again same-length returns)

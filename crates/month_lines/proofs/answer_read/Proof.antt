@@ -6,14 +6,11 @@ use borrow.Author.Tests.{eq-eqb, ne-eqb}
 use denote.Ref.{now}
 use lib.ListN.{length, take}
 use lib.Seq.{length-take-le}
-use Rattle.measure.specs.Row.{over}
+use Rattle.rows.specs.Row.{over}
 use Rattle.month_lines.specs.Input.{readOf, writtenFor, keptFor}
 use Rattle.month_lines.specs.declared.Read.the-variants.{Last, Part}
 use Rattle.month_lines.proofs.answer_read.Statement.{statement}
 use Rattle.month_lines.proofs.answer_read.Tie as tie
-
-slice-reshare-prefix-answer-lines : tie.Need-slice-reshare-prefix-answer-lines
-slice-reshare-prefix-answer-lines c = search needs
 
 slice-aggregate-answer-lines : tie.Need-slice-aggregate-answer-lines
 slice-aggregate-answer-lines c =
@@ -25,12 +22,6 @@ answer-lines-requires c κs =
     let a = c .before .before .before .before .before .args in
     omega (arith, length-take-le (a .have) (now (a .buf)) (omega arith))
 
-same-length : tie.Need-same-length
-same-length c = search needs
-
-same-length-2 : tie.Need-same-length-2
-same-length-2 c = search needs
-
 -- no more was read: what was kept is the last line
 returns : tie.Need-returns
 unfolding over readOf writtenFor keptFor
@@ -41,15 +32,6 @@ returns c =
       simp (eq-eqb _ _ none) (ap Last (told .answer-lines .ensures .0)),
       (simp (eq-eqb _ _ none) (told .answer-lines .ensures .1), simp (eq-eqb _ _ none)),
     )
-
-answer-block-requires : tie.Need-answer-block-requires
-answer-block-requires c κs = search needs
-
-same-length-3 : tie.Need-same-length-3
-same-length-3 c = search needs
-
-same-length-4 : tie.Need-same-length-4
-same-length-4 c = search needs
 
 returns-2 : tie.Need-returns-2
 unfolding readOf writtenFor keptFor
@@ -65,14 +47,5 @@ returns-2 c =
 pub answer-read-spec : {M : Type 1} → statement M
 answer-read-spec =
     tie.close
-    (tie.spec
-    slice-reshare-prefix-answer-lines
-    slice-aggregate-answer-lines
-    answer-lines-requires
-    same-length
-    same-length-2
-    returns
-    answer-block-requires
-    same-length-3
-    same-length-4
-    returns-2)
+    (tie.spec (search needs) slice-aggregate-answer-lines answer-lines-requires (search needs) (search needs) returns
+    (search needs) (search needs) (search needs) returns-2)

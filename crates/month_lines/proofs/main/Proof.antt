@@ -5,7 +5,7 @@ use native.Mathlib.Omega.{arith}
 use borrow.Author.Needs.{needs}
 use lib.ListN.{length, take}
 use Rattle.frames.specs.LineEnds.{lineLength}
-use Rattle.blocks.specs.Block.{enough, Unfinished}
+use Rattle.lines.specs.Block.{enough, Unfinished}
 use Rattle.month_lines.proofs.ReadLaws.{left-most, left-unfinished}
 use Rattle.month_lines.proofs.main.Statement.{statement}
 use Rattle.month_lines.proofs.main.Tie as tie
@@ -27,29 +27,11 @@ loop-holds : tie.Need-loop-holds Inv-loop μ-loop
 unfolding lineLength
 loop-holds c = (sym (c .before .large-buffer .ensures), sym (c .reply-buffer .ensures), omega arith, refl)
 
-slice-aggregate-one-turn : tie.Need-slice-aggregate-one-turn Inv-loop μ-loop
-slice-aggregate-one-turn c = omega arith
-
-slice-aggregate-one-turn-2 : tie.Need-slice-aggregate-one-turn-2 Inv-loop μ-loop
-slice-aggregate-one-turn-2 c = omega arith
-
 one-turn-requires : tie.Need-one-turn-requires Inv-loop μ-loop
 one-turn-requires c κs = (omega arith, c .before .before .before .loop .inv .3)
 
-enum-known-n : tie.Need-enum-known-n Inv-loop μ-loop
-enum-known-n c = search needs
-
-enum-told : tie.Need-enum-told Inv-loop μ-loop
-enum-told c = search needs
-
 returns : tie.Need-returns Inv-loop μ-loop
 returns c = tt
-
-sub-turns : tie.Need-sub-turns Inv-loop μ-loop
-sub-turns c = omega arith
-
-loop-less : tie.Need-loop-less Inv-loop μ-loop
-loop-less c = omega arith
 
 loop-again : tie.Need-loop-again Inv-loop μ-loop
 loop-again c =
@@ -63,19 +45,5 @@ returns-2 c = tt
 pub main-spec : {M : Type 1} → statement M
 main-spec =
     tie.close
-    (tie.spec
-    Inv-loop
-    μ-loop
-    large-buffer-requires
-    reply-buffer-requires
-    loop-holds
-    slice-aggregate-one-turn
-    slice-aggregate-one-turn-2
-    one-turn-requires
-    enum-known-n
-    enum-told
-    returns
-    sub-turns
-    loop-less
-    loop-again
-    returns-2)
+    (tie.spec Inv-loop μ-loop large-buffer-requires reply-buffer-requires loop-holds (λ c. omega arith) (λ c. omega arith)
+    one-turn-requires (search needs) (search needs) returns (λ c. omega arith) (λ c. omega arith) loop-again returns-2)

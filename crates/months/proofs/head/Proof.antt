@@ -9,12 +9,10 @@ returns : tie.Need-returns
 unfolding headReply
 returns c = simp (lt-ltb _ _ (c .if1 .taken))
 
-head-of-requires : tie.Need-head-of-requires
-head-of-requires c κs = search needs
-
 returns-2 : tie.Need-returns-2
 unfolding headReply
 returns-2 c = simp (le-ltb _ _ (c .before .if1 .left), c .head-of .ensures)
 
 pub head-spec : {M : Type 1} → statement M
-head-spec = tie.close (tie.spec returns head-of-requires returns-2)
+head-spec =
+    tie.close (tie.spec returns (search needs) returns-2)

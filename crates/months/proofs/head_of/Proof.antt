@@ -5,11 +5,9 @@ use Rattle.months.specs.declared.Span.{Span}
 use Rattle.months.proofs.head_of.Statement.{statement}
 use Rattle.months.proofs.head_of.Tie as tie
 
-head-span-requires : tie.Need-head-span-requires
-head-span-requires c κs = search needs
-
 returns : tie.Need-returns
 returns c = ap (λ (s : Span). s .lunation) (c .head-span .ensures)
 
 pub head-of-spec : {M : Type 1} → statement M
-head-of-spec = tie.close (tie.spec head-span-requires returns)
+head-of-spec =
+    tie.close (tie.spec (search needs) returns)

@@ -11,12 +11,6 @@ use Rattle.months.proofs.Reach.{solstice-least, solstice-most}
 use Rattle.months.proofs.head_span.Statement.{statement}
 use Rattle.months.proofs.head_span.Tie as tie
 
-mul-middle-day : tie.Need-mul-middle-day
-mul-middle-day c = search needs
-
-middle-day-requires : tie.Need-middle-day-requires
-middle-day-requires c κs = search needs
-
 span-of-requires : tie.Need-span-of-requires
 span-of-requires c κs =
     let n = c .before .args .n in omega (arith, c .middle-day .ensures, solstice-least (12 * n), solstice-most n (c .before .pre))
@@ -28,4 +22,5 @@ returns c =
     ∙ ap (λ (d : ℕ). spanOf (calendar shoushi) (monthOf (calendar shoushi) d)) (c .before .middle-day .ensures)
 
 pub head-span-spec : {M : Type 1} → statement M
-head-span-spec = tie.close (tie.spec mul-middle-day middle-day-requires span-of-requires returns)
+head-span-spec =
+    tie.close (tie.spec (search needs) (search needs) span-of-requires returns)

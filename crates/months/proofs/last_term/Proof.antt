@@ -8,12 +8,6 @@ use Rattle.edition.proofs.Edition.{middle-day}
 use Rattle.months.proofs.last_term.Statement.{statement}
 use Rattle.months.proofs.last_term.Tie as tie
 
-mul-result : tie.Need-mul-result
-mul-result c = search needs
-
-sub-result : tie.Need-sub-result
-sub-result c = search needs
-
 sub-result-2 : tie.Need-sub-result-2
 sub-result-2 c = omega (arith, c .pre .0, middle-day shoushi 0)
 
@@ -26,4 +20,5 @@ returns c =
     }
 
 pub last-term-spec : {M : Type 1} → statement M
-last-term-spec = tie.close (tie.spec mul-result sub-result sub-result-2 returns)
+last-term-spec =
+    tie.close (tie.spec (search needs) (search needs) sub-result-2 returns)

@@ -8,7 +8,7 @@ use Rattle.measure.specs.Epoch.{shoushi}
 use Rattle.month_law.specs.Calendar.{Calendar, monthOf, head}
 use Rattle.edition.specs.Edition.{calendar}
 use Rattle.edition.proofs.Edition.{shoushi-lawful}
-use Rattle.kinds.specs.Kind.{Kind, kindSaid}
+use Rattle.months.specs.Kind.{Kind, kindSaid}
 use Rattle.months.specs.Month.{MonthOfDay, earliest, latest, monthOfDay}
 use Rattle.months.specs.Span.{spanOf, kindBy, LastBefore}
 use Rattle.months.specs.declared.Span.{Span}
@@ -100,9 +100,6 @@ sub-t10 c =
     let p = start .pre in
     begun (start .args .span) (start .args .d) (p .0) (p .1) (p .2)
 
-add-t11 : tie.Need-add-t11
-add-t11 c = search needs
-
 sub-t12 : tie.Need-sub-t12
 sub-t12 c =
     let start = c .before .before .before .before in first-before cal (start .args .span) (monthOf cal (start .args .d)) (start .pre .2) shoushi-lawful
@@ -118,13 +115,4 @@ returns c =
 
 pub month-in-spec : {M : Type 1} → statement M
 month-in-spec =
-    tie.close
-    (tie.spec
-    last-term-requires
-    kind-by-requires
-    head-of-requires
-    sub-t9
-    sub-t10
-    add-t11
-    sub-t12
-    returns)
+    tie.close (tie.spec last-term-requires kind-by-requires head-of-requires sub-t9 sub-t10 (search needs) sub-t12 returns)

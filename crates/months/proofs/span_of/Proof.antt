@@ -7,7 +7,7 @@ use native.Mathlib.Omega.{arith}
 use borrow.Author.Needs.{needs}
 use Rattle.measure.specs.Units.{day, month}
 use Rattle.measure.specs.Epoch.{shoushi, meanStart}
-use Rattle.moons.specs.TrueMoon.{firstDay}
+use Rattle.edition.specs.Edition.{firstDay}
 use Rattle.edition.proofs.Edition.{figures}
 use Rattle.months.specs.Month.{earliest}
 use Rattle.months.proofs.Reach.{MeanBefore, begun-before, over-after, span-is}
@@ -29,23 +29,11 @@ not-first d first h e k = go (meanOf d) e
     go zero e = absurd (omega (arith, figures))
     go (suc l) e = omega arith
 
-mul-mean : tie.Need-mul-mean
-mul-mean c = search needs
-
-sub-mean : tie.Need-sub-mean
-sub-mean c = search needs
-
-first-day-requires : tie.Need-first-day-requires
-first-day-requires c κs = search needs
-
 sub-t8 : tie.Need-sub-t8
 sub-t8 c = not-first _ _ (c .before .before .pre .0) (c .before .first-day .ensures) (c .if1 .taken)
 
 sub-first-day : tie.Need-sub-first-day
 sub-first-day c = not-first _ _ (c .before .before .pre .0) (c .before .first-day .ensures) (c .if1 .taken)
-
-first-day-requires-2 : tie.Need-first-day-requires-2
-first-day-requires-2 c κs = search needs
 
 returns : tie.Need-returns
 returns c =
@@ -62,12 +50,6 @@ returns c =
     })
     (c .first-day2 .ensures) next
 
-add-first-day : tie.Need-add-first-day
-add-first-day c = search needs
-
-first-day-requires-3 : tie.Need-first-day-requires-3
-first-day-requires-3 c κs = search needs
-
 returns-2 : tie.Need-returns-2
 returns-2 c =
     let d = c .before .before .before .before .args .d in
@@ -80,15 +62,6 @@ returns-2 c =
       until = omega (arith, after, c .if2 .taken);
     })
     (first .ensures) after
-
-add-t6 : tie.Need-add-t6
-add-t6 c = search needs
-
-add-first-day-2 : tie.Need-add-first-day-2
-add-first-day-2 c = search needs
-
-first-day-requires-4 : tie.Need-first-day-requires-4
-first-day-requires-4 c κs = search needs
 
 returns-3 : tie.Need-returns-3
 returns-3 c =
@@ -109,18 +82,5 @@ returns-3 c =
 pub span-of-spec : {M : Type 1} → statement M
 span-of-spec =
     tie.close
-    (tie.spec
-    mul-mean
-    sub-mean
-    first-day-requires
-    sub-t8
-    sub-first-day
-    first-day-requires-2
-    returns
-    add-first-day
-    first-day-requires-3
-    returns-2
-    add-t6
-    add-first-day-2
-    first-day-requires-4
-    returns-3)
+    (tie.spec (search needs) (search needs) (search needs) sub-t8 sub-first-day (search needs) returns (search needs)
+    (search needs) returns-2 (search needs) (search needs) (search needs) returns-3)

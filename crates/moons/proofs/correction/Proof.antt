@@ -1,16 +1,13 @@
 -- `moons::correction` meets its contract. Assumes nothing.
 use mathlib.Core.Path.{_∙_, sym, ap}
 use borrow.Author.Needs.{needs}
-use Rattle.measure.specs.Reply.{answer}
+use Rattle.rows.specs.Reply.{answer}
 use Rattle.signed.specs.Signed.{asInteger}
 use Rattle.signed.proofs.Integers.{held}
 use Rattle.moons.specs.TrueMoon.{correctionReply}
 use Rattle.moons.proofs.Admitted.{refused-past, answered, counted}
 use Rattle.moons.proofs.correction.Statement.{statement}
 use Rattle.moons.proofs.correction.Tie as tie
-
-outside-requires : tie.Need-outside-requires
-outside-requires c κs = search needs
 
 returns : tie.Need-returns
 unfolding correctionReply
@@ -31,4 +28,5 @@ returns-2 c =
     ∙ sym (ap asInteger (answered (a .l) (a .q) (b .before .outside .ensures) _ (b .if1 .left)))
 
 pub correction-spec : {M : Type 1} → statement M
-correction-spec = tie.close (tie.spec outside-requires returns correction-of-requires returns-2)
+correction-spec =
+    tie.close (tie.spec (search needs) returns correction-of-requires returns-2)

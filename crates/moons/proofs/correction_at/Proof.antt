@@ -1,16 +1,10 @@
 -- `moons::correction_at` meets its contract: each step fits its bits and is read back off them. Assumes nothing.
 use native.Mathlib.Omega.{arith}
 use borrow.Author.Needs.{needs}
-use Rattle.motions.proofs.Rows.{motion-least}
+use Rattle.inequalities.proofs.MotionAt.{motion-least}
 use Rattle.moons.proofs.Bits.{fits-as, difference-fits, product-fits, motion-fits, correction-fits, difference-read, product-read, quotient-read, correction-read}
 use Rattle.moons.proofs.correction_at.Statement.{statement}
 use Rattle.moons.proofs.correction_at.Tie as tie
-
-solar-requires : tie.Need-solar-requires
-solar-requires c κs = search needs
-
-lunar-requires : tie.Need-lunar-requires
-lunar-requires c κs = search needs
 
 sub-ahead : tie.Need-sub-ahead
 sub-ahead c =
@@ -23,9 +17,6 @@ mul-result c =
     let x = c .before .solar in
     let y = c .lunar in
     fits-as (product-read _ _ _ _ (x .ensures) (y .ensures) (x .ok) (y .ok)) (product-fits _ _)
-
-motion-requires : tie.Need-motion-requires
-motion-requires c κs = search needs
 
 cast-result : tie.Need-cast-result
 cast-result c = rw (c .motion .ensures) (motion-fits (c .before .before .before .args .anomaly))
@@ -48,13 +39,4 @@ returns c =
 
 pub correction-at-spec : {M : Type 1} → statement M
 correction-at-spec =
-    tie.close
-    (tie.spec
-    solar-requires
-    lunar-requires
-    sub-ahead
-    mul-result
-    motion-requires
-    cast-result
-    div-result
-    returns)
+    tie.close (tie.spec (search needs) (search needs) sub-ahead mul-result (search needs) cast-result div-result returns)

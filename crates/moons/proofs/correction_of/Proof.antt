@@ -9,12 +9,6 @@ use Rattle.moons.proofs.Times.{solar-time-lt, anomaly-lt}
 use Rattle.moons.proofs.correction_of.Statement.{statement}
 use Rattle.moons.proofs.correction_of.Tie as tie
 
-solar-time-requires : tie.Need-solar-time-requires
-solar-time-requires c κs = search needs
-
-anomaly-requires : tie.Need-anomaly-requires
-anomaly-requires c κs = search needs
-
 correction-at-requires : tie.Need-correction-at-requires
 correction-at-requires c κs =
     let a = c .before .before .args in
@@ -34,4 +28,4 @@ returns c =
 
 pub correction-of-spec : {M : Type 1} → statement M
 correction-of-spec =
-    tie.close (tie.spec solar-time-requires anomaly-requires correction-at-requires returns)
+    tie.close (tie.spec (search needs) (search needs) correction-at-requires returns)

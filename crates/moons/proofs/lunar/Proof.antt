@@ -3,19 +3,16 @@ use mathlib.Core.Path.{_∙_, sym, ap}
 use Prim.Native.Nat.{ℕ}
 use native.Mathlib.Omega.{arith}
 use borrow.Author.Needs.{needs}
-use Rattle.measure.specs.Reply.{answer}
+use Rattle.rows.specs.Reply.{answer}
 use Rattle.measure.specs.Epoch.{shoushi}
 use Rattle.signed.specs.Signed.{integer, asInteger}
 use Rattle.signed.proofs.Integers.{held}
-use Rattle.lunar.specs.Lunar.{lunar}
+use Rattle.inequalities.specs.Lunar.{lunar}
 use Rattle.moons.specs.TrueMoon.{lunarReply}
 use Rattle.moons.proofs.Admitted.{refused-past, answered, counted}
 use Rattle.moons.proofs.Times.{anomaly-lt}
 use Rattle.moons.proofs.lunar.Statement.{statement}
 use Rattle.moons.proofs.lunar.Tie as tie
-
-outside-requires : tie.Need-outside-requires
-outside-requires c κs = search needs
 
 returns : tie.Need-returns
 unfolding lunarReply
@@ -42,4 +39,5 @@ returns-2 c =
     ∙ sym (ap asInteger (answered (a .l) (a .q) (b .before .outside .ensures) _ (b .if1 .left)))
 
 pub lunar-spec : {M : Type 1} → statement M
-lunar-spec = tie.close (tie.spec outside-requires returns anomaly-requires lunar-requires returns-2)
+lunar-spec =
+    tie.close (tie.spec (search needs) returns anomaly-requires lunar-requires returns-2)

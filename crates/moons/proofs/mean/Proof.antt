@@ -1,14 +1,11 @@
 -- `moons::mean` meets its contract. Assumes nothing.
 use mathlib.Core.Path.{_∙_, sym, ap}
 use borrow.Author.Needs.{needs}
-use Rattle.measure.specs.Reply.{answer}
+use Rattle.rows.specs.Reply.{answer}
 use Rattle.moons.specs.Lunation.{meanReply}
 use Rattle.moons.proofs.Admitted.{refused-past, answered, counted}
 use Rattle.moons.proofs.mean.Statement.{statement}
 use Rattle.moons.proofs.mean.Tie as tie
-
-outside-requires : tie.Need-outside-requires
-outside-requires c κs = search needs
 
 returns : tie.Need-returns
 unfolding meanReply
@@ -29,4 +26,5 @@ returns-2 c =
     ∙ sym (answered (a .l) (a .q) (b .before .outside .ensures) _ (b .if1 .left))
 
 pub mean-spec : {M : Type 1} → statement M
-mean-spec = tie.close (tie.spec outside-requires returns mean-time-requires returns-2)
+mean-spec =
+    tie.close (tie.spec (search needs) returns mean-time-requires returns-2)

@@ -5,21 +5,10 @@ use Rattle.moons.specs.Lunation.{mean}
 use Rattle.moons.proofs.mean_time.Statement.{statement}
 use Rattle.moons.proofs.mean_time.Tie as tie
 
-mul-result : tie.Need-mul-result
-mul-result c = search needs
-
-add-result : tie.Need-add-result
-add-result c = search needs
-
-mul-result-2 : tie.Need-mul-result-2
-mul-result-2 c = search needs
-
-add-result-2 : tie.Need-add-result-2
-add-result-2 c = search needs
-
 returns : tie.Need-returns
 unfolding mean
 returns c = refl
 
 pub mean-time-spec : {M : Type 1} → statement M
-mean-time-spec = tie.close (tie.spec mul-result add-result mul-result-2 add-result-2 returns)
+mean-time-spec =
+    tie.close (tie.spec (search needs) (search needs) (search needs) (search needs) returns)

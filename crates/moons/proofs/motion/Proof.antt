@@ -2,17 +2,14 @@
 use mathlib.Core.Path.{_∙_, sym, ap}
 use native.Mathlib.Omega.{arith}
 use borrow.Author.Needs.{needs}
-use Rattle.measure.specs.Reply.{answer}
+use Rattle.rows.specs.Reply.{answer}
 use Rattle.measure.specs.Epoch.{shoushi}
-use Rattle.motions.specs.Motion.{motion}
+use Rattle.inequalities.specs.Motion.{motion}
 use Rattle.moons.specs.TrueMoon.{motionReply}
 use Rattle.moons.proofs.Admitted.{refused-past, answered, counted}
 use Rattle.moons.proofs.Times.{anomaly-lt}
 use Rattle.moons.proofs.motion.Statement.{statement}
 use Rattle.moons.proofs.motion.Tie as tie
-
-outside-requires : tie.Need-outside-requires
-outside-requires c κs = search needs
 
 returns : tie.Need-returns
 unfolding motionReply
@@ -37,4 +34,5 @@ returns-2 c =
     ∙ sym (answered (a .l) (a .q) (b .before .outside .ensures) _ (b .if1 .left))
 
 pub motion-spec : {M : Type 1} → statement M
-motion-spec = tie.close (tie.spec outside-requires returns anomaly-requires motion-requires returns-2)
+motion-spec =
+    tie.close (tie.spec (search needs) returns anomaly-requires motion-requires returns-2)

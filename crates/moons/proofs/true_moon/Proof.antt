@@ -1,14 +1,11 @@
 -- `moons::true_moon` meets its contract. Assumes nothing.
 use mathlib.Core.Path.{_∙_, sym, ap}
 use borrow.Author.Needs.{needs}
-use Rattle.measure.specs.Reply.{answer}
+use Rattle.rows.specs.Reply.{answer}
 use Rattle.moons.specs.TrueMoon.{trueReply}
 use Rattle.moons.proofs.Admitted.{refused-past, answered, counted}
 use Rattle.moons.proofs.true_moon.Statement.{statement}
 use Rattle.moons.proofs.true_moon.Tie as tie
-
-outside-requires : tie.Need-outside-requires
-outside-requires c κs = search needs
 
 returns : tie.Need-returns
 unfolding trueReply
@@ -29,4 +26,5 @@ returns-2 c =
     ∙ sym (answered (a .l) (a .q) (b .before .outside .ensures) _ (b .if1 .left))
 
 pub true-moon-spec : {M : Type 1} → statement M
-true-moon-spec = tie.close (tie.spec outside-requires returns true-time-requires returns-2)
+true-moon-spec =
+    tie.close (tie.spec (search needs) returns true-time-requires returns-2)

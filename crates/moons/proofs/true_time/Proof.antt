@@ -11,14 +11,8 @@ use Rattle.moons.proofs.Bits.{fits-as, mean-fits, true-fits, sum-read, 
 use Rattle.moons.proofs.true_time.Statement.{statement}
 use Rattle.moons.proofs.true_time.Tie as tie
 
-mean-time-requires : tie.Need-mean-time-requires
-mean-time-requires c κs = search needs
-
 cast-result : tie.Need-cast-result
 cast-result c = let b = c .before in rw (c .mean-time .ensures) (mean-fits (b .args .l) (b .args .q) (b .pre))
-
-correction-of-requires : tie.Need-correction-of-requires
-correction-of-requires c κs = search needs
 
 add-result : tie.Need-add-result
 add-result c =
@@ -45,11 +39,4 @@ returns c =
 
 pub true-time-spec : {M : Type 1} → statement M
 true-time-spec =
-    tie.close
-    (tie.spec
-    mean-time-requires
-    cast-result
-    correction-of-requires
-    add-result
-    cast-result-2
-    returns)
+    tie.close (tie.spec (search needs) cast-result (search needs) add-result cast-result-2 returns)

@@ -24,9 +24,6 @@ returns c =
     let z = c .before .before .args .answered in
     (failing z _ (below-zero z (c .before .before .fits .answered) (c .if1 .taken)), tt)
 
-count-requires : tie.Need-count-requires
-count-requires c κs = search needs
-
 returns-2 : tie.Need-returns-2
 returns-2 c =
     let z = c .before .before .before .args .answered in
@@ -34,4 +31,5 @@ returns-2 c =
     (simp (c .count .ensures .1, toZ-ofZ f) (coming z _ (from-zero z f (c .before .if1 .left))), c .count .ensures .0 .0)
 
 pub given-spec : {M : Type 1} → statement M
-given-spec = tie.close (tie.spec returns count-requires returns-2)
+given-spec =
+    tie.close (tie.spec returns (search needs) returns-2)

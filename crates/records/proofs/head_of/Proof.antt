@@ -5,12 +5,12 @@ use Prim.Native.Nat.{ℕ, suc, _≤_, _<_}
 use native.Mathlib.Omega.{arith}
 use borrow.Author.Needs.{needs}
 use borrow.Author.Tests.{lt-ltb, le-ltb}
-use Rattle.measure.specs.Reply.{answer, refused, noYear, answerSaid}
+use Rattle.rows.specs.Reply.{answer, refused, noYear, answerSaid}
 use Rattle.measure.specs.Units.{lastYear}
 use Rattle.measure.specs.Epoch.{shoushi}
-use Rattle.measure.specs.declared.Answer.{Answer}
-use Rattle.measure.specs.declared.Answer.the-variants.{Number, Refused}
-use Rattle.measure.proofs.Choice.{lt-or-ge}
+use Rattle.rows.specs.declared.Answer.{Answer}
+use Rattle.rows.specs.declared.Answer.the-variants.{Number, Refused}
+use Rattle.rows.proofs.Choice.{lt-or-ge}
 use Rattle.moons.specs.Lunation.{lastLunation}
 use Rattle.month_law.specs.Calendar.{Calendar, head}
 use Rattle.edition.specs.Edition.{calendar}
@@ -54,18 +54,6 @@ module _ (n : ℕ) where
         by (inl h) = let last : n ≡ suc lastYear = omega arith in sym (ap (head cal) last ∙ head-1000)
         by (inr h) = let p : headReply shoushi n ≡ answer (head cal n) = answered h in cc
 
-head-requires : tie.Need-head-requires
-head-requires c κs = search needs
-
-enum-known-reply : tie.Need-enum-known-reply
-enum-known-reply c = search needs
-
-enum-told : tie.Need-enum-told
-enum-told c = search needs
-
-add-result : tie.Need-add-result
-add-result c = search needs
-
 returns : tie.Need-returns
 returns c = not-given _ _ (c .before .before .head .ensures) _ (c .enum-told .given .1)
 
@@ -74,4 +62,4 @@ returns-2 c most = given _ _ (c .before .before .before .head .ensures) _ (c .be
 
 pub head-of-spec : {M : Type 1} → statement M
 head-of-spec =
-    tie.close (tie.spec head-requires enum-known-reply enum-told add-result returns returns-2)
+    tie.close (tie.spec (search needs) (search needs) (search needs) (search needs) returns returns-2)

@@ -1,17 +1,11 @@
 -- `records::months_in` meets its contract, case by case. Assumes nothing.
 use mathlib.Core.Path.{sym, ap}
 use borrow.Author.Needs.{needs}
-use Rattle.measure.specs.declared.Answer.{Answer}
-use Rattle.measure.specs.Reply.{answerSaid}
+use Rattle.rows.specs.declared.Answer.{Answer}
+use Rattle.rows.specs.Reply.{answerSaid}
 use Rattle.records.specs.MonthRecords.{writtenIn}
 use Rattle.records.proofs.months_in.Statement.{statement}
 use Rattle.records.proofs.months_in.Tie as tie
-
-enum-known-reply : tie.Need-enum-known-reply
-enum-known-reply c = search needs
-
-enum-told : tie.Need-enum-told
-enum-told c = search needs
 
 returns : tie.Need-returns
 returns c = sym (ap (λ (reply : Answer). writtenIn (answerSaid reply)) (c .before .reply .given .1))
@@ -20,4 +14,5 @@ returns-2 : tie.Need-returns-2
 returns-2 c = sym (ap (λ (reply : Answer). writtenIn (answerSaid reply)) (c .enum-told .given .1))
 
 pub months-in-spec : {M : Type 1} → statement M
-months-in-spec = tie.close (tie.spec enum-known-reply enum-told returns returns-2)
+months-in-spec =
+    tie.close (tie.spec (search needs) (search needs) returns returns-2)

@@ -52,7 +52,7 @@ use Rattle.measure.specs.Epoch.{shoushi}
 use Rattle.moons.specs.Lunation.{lastLunation}
 use Rattle.month_law.specs.Calendar.{Calendar}
 use Rattle.edition.specs.Edition.{calendar}
-use Rattle.year_rows.specs.Records.{recordOf}
+use Rattle.lists.specs.Records.{recordOf}
 use Rattle.records.specs.declared.MonthRecord.{MonthRecord}
 use Rattle.records.specs.MonthRecords.{recordIn, monthsFrom, over}
 use Rattle.records.proofs.Rows.{length-over}

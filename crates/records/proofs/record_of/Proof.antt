@@ -11,12 +11,12 @@ use Rattle.edition.specs.Edition.{calendar}
 use Rattle.month_law.proofs.Months.{first-rises}
 use Rattle.month_law.proofs.Terms.{one-come}
 use Rattle.edition.proofs.Edition.{shoushi-lawful}
-use Rattle.kinds.specs.Kind.{Kind, numberIn, markIn, kindSaid}
+use Rattle.months.specs.Kind.{Kind, numberIn, markIn, kindSaid}
 use Rattle.months.specs.Month.{latest}
 use Rattle.months.specs.Span.{LastBefore, kindBy}
-use Rattle.year_rows.specs.Records.{recordOf}
+use Rattle.lists.specs.Records.{recordOf}
 use Rattle.months.proofs.Reach.{first-most, term-small}
-use Rattle.year_rows.proofs.RecordLaws.{record-told}
+use Rattle.lists.proofs.RecordLaws.{record-told}
 use Rattle.records.specs.MonthRecords.{recordBy, recordIn}
 use Rattle.records.proofs.record_of.Statement.{statement}
 use Rattle.records.proofs.record_of.Tie as tie
@@ -46,18 +46,6 @@ module _ (m first next : ℕ) (f : first ≡ cal .first m) (e : next ≡ cal .fi
       (λ i. recordBy (f i) (next-is i - f i) (numberIn (same i)) (markIn (same i)))
       ∙ ap recordIn (record-told cal shoushi-lawful m j (subst (λ (d : ℕ). LastBefore cal d j) next-is last))
 
-add-month : tie.Need-add-month
-add-month c = search needs
-
-first-day-requires : tie.Need-first-day-requires
-first-day-requires c κs = search needs
-
-add-first-day : tie.Need-add-first-day
-add-first-day c = search needs
-
-first-day-requires-2 : tie.Need-first-day-requires-2
-first-day-requires-2 c κs = search needs
-
 last-term-requires : tie.Need-last-term-requires
 last-term-requires c κs =
     let start = c .before .before in
@@ -78,33 +66,18 @@ sub-t7 c =
     let start = c .before .before .before .before in
     before (start .args .l + start .args .i) _ _ (c .before .before .before .first-day .ensures) (c .before .before .first-day2 .ensures)
 
-number-in-requires : tie.Need-number-in-requires
-number-in-requires c κs = search needs
-
-leap-mark-requires : tie.Need-leap-mark-requires
-leap-mark-requires c κs = search needs
-
 returns : tie.Need-returns
 returns c =
     let kind = c .before .before in
     let days = kind .before .before in
     let start = days .before .before in
     (λ i. recordBy (days .before .first-day .result) (days .first-day2 .result - days .before .first-day .result)
-    (c .before .number-in .ensures i) (c .leap-mark .ensures i))
+    (c .before .month-number .ensures i) (c .leap-mark .ensures i))
     ∙ told (start .args .l + start .args .i) _ _ (days .before .first-day .ensures) (days .first-day2 .ensures) _
     (kindSaid (kind .kind-by .result)) (kind .before .last-term .ensures) (kind .kind-by .ensures)
 
 pub record-of-spec : {M : Type 1} → statement M
 record-of-spec =
     tie.close
-    (tie.spec
-    add-month
-    first-day-requires
-    add-first-day
-    first-day-requires-2
-    last-term-requires
-    kind-by-requires
-    sub-t7
-    number-in-requires
-    leap-mark-requires
-    returns)
+    (tie.spec (search needs) (search needs) (search needs) (search needs) last-term-requires kind-by-requires sub-t7
+    (search needs) (search needs) returns)

@@ -40,12 +40,12 @@ use denote.Triple.Table.{entered, cited}
 use denote.Triple.Walked.{says, Stays, stay-none, gave-slice, walkOf, goes-none, goes-gave-slice, Walks, ends-at, walked, walk-meets}
 use denote.Exit.{yes}
 use denote.Signature.{plain}
-use Rattle.measure.specs.Reply.{answerSaid}
+use Rattle.rows.specs.Reply.{answerSaid}
 use Rattle.measure.specs.Units.{lastYear}
 use Rattle.measure.specs.Epoch.{shoushi}
-use Rattle.measure.specs.declared.Answer.{Answer}
-use Rattle.measure.proofs.Answer as E
-use Rattle.measure.proofs.Answer.Laws as E′
+use Rattle.rows.specs.declared.Answer.{Answer}
+use Rattle.rows.proofs.Answer as E
+use Rattle.rows.proofs.Answer.Laws as E′
 use Rattle.month_law.specs.Calendar.{Calendar, head}
 use Rattle.edition.specs.Edition.{calendar}
 use Rattle.lists.specs.Lists.{runReply}

@@ -3,7 +3,7 @@ use mathlib.Core.Path.{_≡_, _∙_, sym, ap}
 use Prim.Native.Nat.{_+_, _-_}
 use native.Mathlib.Omega.{arith}
 use borrow.Author.Needs.{needs}
-use Rattle.measure.specs.Reply.{answer}
+use Rattle.rows.specs.Reply.{answer}
 use Rattle.measure.specs.Epoch.{shoushi}
 use Rattle.month_law.specs.Calendar.{Calendar, head}
 use Rattle.edition.specs.Edition.{calendar}
@@ -36,23 +36,8 @@ module _ (c : tie.After-head-of2) where
       let start : c .head-of2 .result ≡ head cal (a .n) = c .head-of2 .ensures (omega (arith, ok .within)) in
       rw (start, end) (run-ends cal shoushi-lawful (a .n) (a .count))
 
-run-asked-requires : tie.Need-run-asked-requires
-run-asked-requires c κs = search needs
-
-enum-known-k : tie.Need-enum-known-k
-enum-known-k c = search needs
-
-enum-told : tie.Need-enum-told
-enum-told c = search needs
-
 add-head-of : tie.Need-add-head-of
 add-head-of c = omega (arith, admitted c .within)
-
-head-of-requires : tie.Need-head-of-requires
-head-of-requires c κs = search needs
-
-head-of-requires-2 : tie.Need-head-of-requires-2
-head-of-requires-2 c κs = search needs
 
 sub-t11 : tie.Need-sub-t11
 sub-t11 c = omega (arith, counted c)
@@ -74,13 +59,4 @@ returns-2 c =
 pub run-reply-spec : {M : Type 1} → statement M
 run-reply-spec =
     tie.close
-    (tie.spec
-    run-asked-requires
-    enum-known-k
-    enum-told
-    add-head-of
-    head-of-requires
-    head-of-requires-2
-    sub-t11
-    returns
-    returns-2)
+    (tie.spec (search needs) (search needs) (search needs) add-head-of (search needs) (search needs) sub-t11 returns returns-2)

@@ -38,9 +38,9 @@ use denote.Triple.Table.{entered, cited}
 use denote.Triple.Walked.{says, Stays, stay-none, gave-slice, walkOf, goes-none, goes-gave-slice, Walks, ends-at, walked, walk-meets}
 use denote.Exit.{yes}
 use denote.Signature.{plain}
-use Rattle.measure.specs.declared.Answer.{Answer}
-use Rattle.measure.proofs.Answer as E
-use Rattle.measure.proofs.Answer.Laws as E′
+use Rattle.rows.specs.declared.Answer.{Answer}
+use Rattle.rows.proofs.Answer as E
+use Rattle.rows.proofs.Answer.Laws as E′
 use Rattle.records.specs.declared.MonthRecord.{MonthRecord}
 use Rattle.records.proofs.Runs.{YearSays, RunSays, year-of-run}
 use Rattle.records.proofs.MonthRecord as T

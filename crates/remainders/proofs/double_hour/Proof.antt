@@ -9,12 +9,10 @@ returns : tie.Need-returns
 unfolding hourReply
 returns c = simp (le-leb _ _ (c .if1 .taken))
 
-mul-twelfths : tie.Need-mul-twelfths
-mul-twelfths c = search needs
-
 returns-2 : tie.Need-returns-2
 unfolding hourReply doubleHour ke
 returns-2 c = simp (lt-leb _ _ (c .if1 .left))
 
 pub double-hour-spec : {M : Type 1} → statement M
-double-hour-spec = tie.close (tie.spec returns mul-twelfths returns-2)
+double-hour-spec =
+    tie.close (tie.spec returns (search needs) returns-2)

@@ -4,23 +4,10 @@ use Rattle.replies.specs.ReplyText.{constantsText}
 use Rattle.replies.proofs.put_constants.Statement.{statement}
 use Rattle.replies.proofs.put_constants.Tie as tie
 
-slice-aggregate-fill : tie.Need-slice-aggregate-fill
-slice-aggregate-fill c = search needs
-
-slice-aggregate-fill-2 : tie.Need-slice-aggregate-fill-2
-slice-aggregate-fill-2 c = search needs
-
-fill-requires : tie.Need-fill-requires
-fill-requires c κs = search needs
-
-same-length : tie.Need-same-length
-same-length c = search needs
-
 returns : tie.Need-returns
 unfolding constantsText
 returns c = c .before .before .fill .ensures
 
 pub put-constants-spec : {M : Type 1} → statement M
 put-constants-spec =
-    tie.close
-    (tie.spec slice-aggregate-fill slice-aggregate-fill-2 fill-requires same-length returns)
+    tie.close (tie.spec (search needs) (search needs) (search needs) (search needs) returns)

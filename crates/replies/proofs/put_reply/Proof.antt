@@ -1,319 +1,229 @@
 -- `replies::put_reply` meets its contract. Assumes nothing.
 use borrow.Author.Needs.{needs}
-use mathlib.Core.Path.{ap}
+use Prim.Native.Nat.{suc}
+use Rattle.rows.specs.Reply.{answerSaid}
+use lib.ListN.{length}
+use native.Mathlib.Omega.{arith}
 use denote.Ref.{now}
-use mir.Syntax.{w64}
-use mir.Val.{SFits}
-use mir.Facts.{toZ-ofZ}
-use Rattle.line_texts.specs.LineText.{signedText}
+use Rattle.measure.specs.Units.{lastYear}
+use Rattle.seasons.specs.Terms.{terms as termsInYear}
+use Rattle.lists.specs.Records.{recordWidth, yearRoom}
+use Rattle.questions.specs.DeskReply.{mostRecords}
+use Rattle.replies.specs.ListText.{numberRoom, recordRoom}
 use Rattle.replies.specs.ReplyText.{replyText, roomOf}
-use Rattle.line_texts.proofs.LineLaws.{told-so}
-use Rattle.replies.proofs.ReplyLaws.{case-room, case-told}
+use Rattle.replies.proofs.ListTextLaws.{few-fit}
+use Rattle.replies.proofs.ReplyLaws.{case-room, case-lies, case-told}
 use Rattle.replies.proofs.put_reply.Statement.{statement}
 use Rattle.replies.proofs.put_reply.Tie as tie
-
-enum-known-r : tie.Need-enum-known-r
-enum-known-r c = search needs
 
 put-refusal-requires : tie.Need-put-refusal-requires
 unfolding roomOf
 put-refusal-requires c κs =
-    let at = c .before .before in
-    case-room (at .r .given .1) (at .before .before .before .pre)
-
-enum-told : tie.Need-enum-told
-enum-told c = search needs
-
-put-nothing-requires : tie.Need-put-nothing-requires
-unfolding roomOf
-put-nothing-requires c κs =
     let at = c .before in
-    case-room (at .enum-told .given .1) (at .before .before .before .pre)
+    case-room _ (at .enum-told .given .1) (at .before .before .before .before .pre .1)
 
-enum-known-r-2 : tie.Need-enum-known-r-2
-enum-known-r-2 c = search needs
-
-put-one-requires : tie.Need-put-one-requires
+put-number-requires : tie.Need-put-number-requires
 unfolding roomOf
-put-one-requires c κs =
+put-number-requires c κs =
     let at = c .before .before in
-    case-room (at .r2 .given .1) (at .before .before .before .pre)
-
-enum-known-r-3 : tie.Need-enum-known-r-3
-enum-known-r-3 c = search needs
-
-put-two-requires : tie.Need-put-two-requires
-unfolding roomOf
-put-two-requires c κs =
-    let at = c .before .before in
-    case-room (at .r3 .given .1) (at .before .before .before .pre)
-
-enum-known-r-4 : tie.Need-enum-known-r-4
-enum-known-r-4 c = search needs
-
-put-three-requires : tie.Need-put-three-requires
-unfolding roomOf
-put-three-requires c κs =
-    let at = c .before .before in
-    case-room (at .r4 .given .1) (at .before .before .before .pre)
-
-enum-known-r-5 : tie.Need-enum-known-r-5
-enum-known-r-5 c = search needs
-
-put-signed-requires : tie.Need-put-signed-requires
-unfolding roomOf
-put-signed-requires c κs =
-    let at = c .before .before in
-    case-room (at .r5 .given .1) (at .before .before .before .pre)
-
-enum-known-r-6 : tie.Need-enum-known-r-6
-enum-known-r-6 c = search needs
-
-put-month-requires : tie.Need-put-month-requires
-unfolding roomOf
-put-month-requires c κs =
-    let at = c .before .before in
-    case-room (at .r6 .given .1) (at .before .before .before .pre)
-
-enum-known-r-7 : tie.Need-enum-known-r-7
-enum-known-r-7 c = search needs
+    case-room _ (at .r .given .1) (at .before .before .before .before .pre .1)
 
 put-moment-requires : tie.Need-put-moment-requires
 unfolding roomOf
 put-moment-requires c κs =
     let at = c .before .before in
-    case-room (at .r7 .given .1) (at .before .before .before .pre)
+    case-room _ (at .r2 .given .1) (at .before .before .before .before .pre .1)
 
-enum-known-r-8 : tie.Need-enum-known-r-8
-enum-known-r-8 c = search needs
-
-put-terms-requires : tie.Need-put-terms-requires
+put-signed-requires : tie.Need-put-signed-requires
 unfolding roomOf
-put-terms-requires c κs =
+put-signed-requires c κs =
     let at = c .before .before in
-    case-room (at .r8 .given .1) (at .before .before .before .pre)
+    case-room _ (at .r3 .given .1) (at .before .before .before .before .pre .1)
 
-enum-known-r-9 : tie.Need-enum-known-r-9
-enum-known-r-9 c = search needs
-
-put-year-requires : tie.Need-put-year-requires
+put-month-requires : tie.Need-put-month-requires
 unfolding roomOf
-put-year-requires c κs =
+put-month-requires c κs =
     let at = c .before .before in
-    case-room (at .r9 .given .1) (at .before .before .before .pre)
+    case-room _ (at .r4 .given .1) (at .before .before .before .before .pre .1)
 
-enum-known-r-10 : tie.Need-enum-known-r-10
-enum-known-r-10 c = search needs
-
-put-years-requires : tie.Need-put-years-requires
+put-name-requires : tie.Need-put-name-requires
 unfolding roomOf
-put-years-requires c κs =
+put-name-requires c κs =
     let at = c .before .before in
-    case-room (at .r10 .given .1) (at .before .before .before .pre)
+    case-room _ (at .r5 .given .1) (at .before .before .before .before .pre .1)
 
-enum-told-2 : tie.Need-enum-told-2
-enum-told-2 c = search needs
+put-hour-requires : tie.Need-put-hour-requires
+unfolding roomOf
+put-hour-requires c κs =
+    let at = c .before .before in
+    case-room _ (at .r6 .given .1) (at .before .before .before .before .pre .1)
+
+put-days-requires : tie.Need-put-days-requires
+unfolding roomOf
+put-days-requires c κs =
+    let at = c .before .before in
+    case-room _ (at .r7 .given .1) (at .before .before .before .before .pre .1)
+
+put-list-requires : tie.Need-put-list-requires
+unfolding roomOf
+put-list-requires c κs =
+    let at = c .before .before in
+    let start = at .before .before .before .before in
+    let room = case-room _ (at .r8 .given .1) (start .pre .1) in
+    let few = case-lies (at .r8 .given .1) (length (now (start .args .numbers))) (start .pre .0) in
+    (omega (arith, room), few-fit 1 numberRoom termsInYear (answerSaid (at .r8 .given .0 .0)) _ _ few (omega (arith, room)))
+
+put-months-requires : tie.Need-put-months-requires
+unfolding roomOf
+put-months-requires c κs =
+    let at = c .before .before in
+    let start = at .before .before .before .before in
+    let room = case-room _ (at .r9 .given .1) (start .pre .1) in
+    let few = case-lies (at .r9 .given .1) (length (now (start .args .numbers))) (start .pre .0) in
+    (omega (arith, room), few-fit recordWidth recordRoom yearRoom (answerSaid (at .r9 .given .0 .0)) _ _ few (omega (arith, room)))
+
+put-months-requires-2 : tie.Need-put-months-requires-2
+unfolding roomOf
+put-months-requires-2 c κs =
+    let at = c .before .before in
+    let start = at .before .before .before .before in
+    let room = case-room _ (at .r10 .given .1) (start .pre .1) in
+    let few = case-lies (at .r10 .given .1) (length (now (start .args .numbers))) (start .pre .0) in
+    (omega (arith, room), few-fit recordWidth recordRoom mostRecords (answerSaid (at .r10 .given .0 .0)) _ _ few (omega (arith, room)))
+
+put-list-requires-2 : tie.Need-put-list-requires-2
+unfolding roomOf
+put-list-requires-2 c κs =
+    let at = c .before .before in
+    let start = at .before .before .before .before in
+    let room = case-room _ (at .r11 .given .1) (start .pre .1) in
+    let few = case-lies (at .r11 .given .1) (length (now (start .args .numbers))) (start .pre .0) in
+    (omega (arith, room), few-fit 1 numberRoom (suc lastYear) (answerSaid (at .r11 .given .0 .0)) _ _ few (omega (arith, room)))
 
 put-constants-requires : tie.Need-put-constants-requires
 unfolding roomOf
 put-constants-requires c κs =
     let at = c .before in
-    case-room (at .enum-told2 .given .1) (at .before .before .before .pre)
-
-enum-told-3 : tie.Need-enum-told-3
-enum-told-3 c = search needs
+    case-room _ (at .enum-told2 .given .1) (at .before .before .before .before .pre .1)
 
 put-help-requires : tie.Need-put-help-requires
 unfolding roomOf
 put-help-requires c κs =
     let at = c .before in
-    case-room (at .enum-told3 .given .1) (at .before .before .before .pre)
-
-same-length : tie.Need-same-length
-same-length c = search needs
+    case-room _ (at .enum-told3 .given .1) (at .before .before .before .before .pre .1)
 
 returns : tie.Need-returns
 unfolding replyText
 returns c =
     let put = c .before .before in
-    let at = put .before .before .before in
-    case-told (now (at .before .before .before .args .row)) (at .r .given .1) (put .put-refusal .ensures)
-
-same-length-2 : tie.Need-same-length-2
-same-length-2 c = search needs
+    let at = put .before .before in
+    let a = at .before .before .before .before .args in
+    case-told (now (a .numbers)) (at .enum-told .given .1) (now (a .row)) (put .put-refusal .ensures)
 
 returns-2 : tie.Need-returns-2
 unfolding replyText
 returns-2 c =
     let put = c .before .before in
-    let at = put .before .before in
-    case-told (now (at .before .before .before .args .row)) (at .enum-told .given .1) (put .put-nothing .ensures)
-
-same-length-3 : tie.Need-same-length-3
-same-length-3 c = search needs
+    let at = put .before .before .before in
+    let a = at .before .before .before .before .args in
+    case-told (now (a .numbers)) (at .r .given .1) (now (a .row)) (put .put-number .ensures)
 
 returns-3 : tie.Need-returns-3
 unfolding replyText
 returns-3 c =
     let put = c .before .before in
     let at = put .before .before .before in
-    case-told (now (at .before .before .before .args .row)) (at .r2 .given .1) (put .put-one .ensures)
-
-same-length-4 : tie.Need-same-length-4
-same-length-4 c = search needs
+    let a = at .before .before .before .before .args in
+    case-told (now (a .numbers)) (at .r2 .given .1) (now (a .row)) (put .put-moment .ensures)
 
 returns-4 : tie.Need-returns-4
 unfolding replyText
 returns-4 c =
     let put = c .before .before in
     let at = put .before .before .before in
-    case-told (now (at .before .before .before .args .row)) (at .r3 .given .1) (put .put-two .ensures)
-
-same-length-5 : tie.Need-same-length-5
-same-length-5 c = search needs
+    let a = at .before .before .before .before .args in
+    case-told (now (a .numbers)) (at .r3 .given .1) (now (a .row)) (put .put-signed .ensures)
 
 returns-5 : tie.Need-returns-5
 unfolding replyText
 returns-5 c =
     let put = c .before .before in
     let at = put .before .before .before in
-    case-told (now (at .before .before .before .args .row)) (at .r4 .given .1) (put .put-three .ensures)
-
-same-length-6 : tie.Need-same-length-6
-same-length-6 c = search needs
+    let a = at .before .before .before .before .args in
+    case-told (now (a .numbers)) (at .r4 .given .1) (now (a .row)) (put .put-month .ensures)
 
 returns-6 : tie.Need-returns-6
 unfolding replyText
 returns-6 c =
     let put = c .before .before in
     let at = put .before .before .before in
-    let row = now (at .before .before .before .args .row) in
-    let fits : SFits w64 (at .r5 .given .0 .0) = record { sfits = put .before .before .known-told5 .given .0 .1 } in
-    case-told row (at .r5 .given .1) (told-so row (ap signedText (toZ-ofZ fits)) (put .put-signed .ensures))
-
-same-length-7 : tie.Need-same-length-7
-same-length-7 c = search needs
+    let a = at .before .before .before .before .args in
+    case-told (now (a .numbers)) (at .r5 .given .1) (now (a .row)) (put .put-name .ensures)
 
 returns-7 : tie.Need-returns-7
 unfolding replyText
 returns-7 c =
     let put = c .before .before in
     let at = put .before .before .before in
-    case-told (now (at .before .before .before .args .row)) (at .r6 .given .1) (put .put-month .ensures)
-
-same-length-8 : tie.Need-same-length-8
-same-length-8 c = search needs
+    let a = at .before .before .before .before .args in
+    case-told (now (a .numbers)) (at .r6 .given .1) (now (a .row)) (put .put-hour .ensures)
 
 returns-8 : tie.Need-returns-8
 unfolding replyText
 returns-8 c =
     let put = c .before .before in
     let at = put .before .before .before in
-    case-told (now (at .before .before .before .args .row)) (at .r7 .given .1) (put .put-moment .ensures)
-
-same-length-9 : tie.Need-same-length-9
-same-length-9 c = search needs
+    let a = at .before .before .before .before .args in
+    case-told (now (a .numbers)) (at .r7 .given .1) (now (a .row)) (put .put-days .ensures)
 
 returns-9 : tie.Need-returns-9
 unfolding replyText
 returns-9 c =
     let put = c .before .before in
     let at = put .before .before .before in
-    case-told (now (at .before .before .before .args .row)) (at .r8 .given .1) (put .put-terms .ensures)
-
-same-length-10 : tie.Need-same-length-10
-same-length-10 c = search needs
+    let a = at .before .before .before .before .args in
+    case-told (now (a .numbers)) (at .r8 .given .1) (now (a .row)) (put .put-list .ensures)
 
 returns-10 : tie.Need-returns-10
 unfolding replyText
 returns-10 c =
     let put = c .before .before in
     let at = put .before .before .before in
-    case-told (now (at .before .before .before .args .row)) (at .r9 .given .1) (put .put-year .ensures)
-
-same-length-11 : tie.Need-same-length-11
-same-length-11 c = search needs
+    let a = at .before .before .before .before .args in
+    case-told (now (a .numbers)) (at .r9 .given .1) (now (a .row)) (put .put-months .ensures)
 
 returns-11 : tie.Need-returns-11
 unfolding replyText
 returns-11 c =
     let put = c .before .before in
     let at = put .before .before .before in
-    case-told (now (at .before .before .before .args .row)) (at .r10 .given .1) (put .put-years .ensures)
-
-same-length-12 : tie.Need-same-length-12
-same-length-12 c = search needs
+    let a = at .before .before .before .before .args in
+    case-told (now (a .numbers)) (at .r10 .given .1) (now (a .row)) (put .put-months2 .ensures)
 
 returns-12 : tie.Need-returns-12
 unfolding replyText
 returns-12 c =
     let put = c .before .before in
-    let at = put .before .before in
-    case-told (now (at .before .before .before .args .row)) (at .enum-told2 .given .1) (put .put-constants .ensures)
-
-same-length-13 : tie.Need-same-length-13
-same-length-13 c = search needs
+    let at = put .before .before .before in
+    let a = at .before .before .before .before .args in
+    case-told (now (a .numbers)) (at .r11 .given .1) (now (a .row)) (put .put-list2 .ensures)
 
 returns-13 : tie.Need-returns-13
 unfolding replyText
 returns-13 c =
     let put = c .before .before in
     let at = put .before .before in
-    case-told (now (at .before .before .before .args .row)) (at .enum-told3 .given .1) (put .put-help .ensures)
+    let a = at .before .before .before .before .args in
+    case-told (now (a .numbers)) (at .enum-told2 .given .1) (now (a .row)) (put .put-constants .ensures)
+
+returns-14 : tie.Need-returns-14
+unfolding replyText
+returns-14 c =
+    let put = c .before .before in
+    let at = put .before .before in
+    let a = at .before .before .before .before .args in
+    case-told (now (a .numbers)) (at .enum-told3 .given .1) (now (a .row)) (put .put-help .ensures)
 
 pub put-reply-spec : {M : Type 1} → statement M
 put-reply-spec =
-    tie.close
-    (tie.spec
-    enum-known-r
-    put-refusal-requires
-    enum-told
-    put-nothing-requires
-    enum-known-r-2
-    put-one-requires
-    enum-known-r-3
-    put-two-requires
-    enum-known-r-4
-    put-three-requires
-    enum-known-r-5
-    put-signed-requires
-    enum-known-r-6
-    put-month-requires
-    enum-known-r-7
-    put-moment-requires
-    enum-known-r-8
-    put-terms-requires
-    enum-known-r-9
-    put-year-requires
-    enum-known-r-10
-    put-years-requires
-    enum-told-2
-    put-constants-requires
-    enum-told-3
-    put-help-requires
-    same-length
-    returns
-    same-length-2
-    returns-2
-    same-length-3
-    returns-3
-    same-length-4
-    returns-4
-    same-length-5
-    returns-5
-    same-length-6
-    returns-6
-    same-length-7
-    returns-7
-    same-length-8
-    returns-8
-    same-length-9
-    returns-9
-    same-length-10
-    returns-10
-    same-length-11
-    returns-11
-    same-length-12
-    returns-12
-    same-length-13
-    returns-13)
+    tie.close (tie.spec (search needs) put-refusal-requires (search needs) put-number-requires (search needs) put-moment-requires (search needs) put-signed-requires (search needs) put-month-requires (search needs) put-name-requires (search needs) put-hour-requires (search needs) put-days-requires (search needs) put-list-requires (search needs) put-months-requires (search needs) put-months-requires-2 (search needs) put-list-requires-2 (search needs) put-constants-requires (search needs) put-help-requires (search needs) returns (search needs) returns-2 (search needs) returns-3 (search needs) returns-4 (search needs) returns-5 (search needs) returns-6 (search needs) returns-7 (search needs) returns-8 (search needs) returns-9 (search needs) returns-10 (search needs) returns-11 (search needs) returns-12 (search needs) returns-13 (search needs) returns-14)

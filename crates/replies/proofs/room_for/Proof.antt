@@ -1,44 +1,48 @@
 -- `replies::room_for` meets its contract. Assumes nothing.
-use mathlib.Core.List.{[], _∷_}
-use mathlib.Core.Path.{_≡_, refl}
 use borrow.Author.Needs.{needs}
+use mathlib.Core.List.{List, [], _∷_}
+use mathlib.Core.Path.{_≡_, refl}
+use Prim.Native.Nat.{ℕ}
 use denote.Enum.Declared.{tagOf}
 use types.Run.{OneOf, miss}
-use Rattle.questions.proofs.Reply.{the-type}
-use Rattle.questions.specs.Told.{toldIn}
-use Rattle.questions.specs.declared.Reply.{Reply as ReplyCase}
-use Rattle.questions.specs.declared.Reply.the-variants.{Refused, Nothing, One, Two, Three, Signed, Month, Moment, Terms, Year, Years, Constants, Help}
-use Rattle.line_texts.specs.LineText.{lineRoom}
+use Rattle.questions.proofs.DeskAnswer.{the-type}
+use Rattle.questions.specs.DeskReply.{deskSaid}
+use Rattle.questions.specs.declared.DeskAnswer.{DeskAnswer}
+use Rattle.questions.specs.declared.DeskAnswer.the-variants.{Malformed, Number, Moment, Signed, Month, Name, Hour, Days, Terms, Year, Years, Sheet, Constants, Help}
+use Rattle.replies.specs.LineText.{lineRoom}
 use Rattle.replies.specs.ReplyText.{roomOf}
 use Rattle.replies.proofs.room_for.Statement.{statement}
 use Rattle.replies.proofs.room_for.Tie as tie
 
-enum-told : tie.Need-enum-told
-enum-told c = search needs
-
 returns : tie.Need-returns
 unfolding roomOf
-returns c = search needs
-
--- every reply but that of years asks for the room of one line
-other-room : (r : ReplyCase) → OneOf (0 ∷ 1 ∷ 2 ∷ 3 ∷ 4 ∷ 5 ∷ 6 ∷ 7 ∷ 8 ∷ 9 ∷ 11 ∷ 12 ∷ []) (tagOf the-type r) → lineRoom ≡ roomOf (toldIn r)
-unfolding roomOf
-other-room (Refused k) h = refl
-other-room Nothing h = refl
-other-room (One a) h = refl
-other-room (Two a b) h = refl
-other-room (Three a b d) h = refl
-other-room (Signed z) h = refl
-other-room (Month m) h = refl
-other-room (Moment t) h = refl
-other-room (Terms n) h = refl
-other-room (Year n) h = refl
-other-room (Years n k) h = absurd (miss (0 ∷ 1 ∷ 2 ∷ 3 ∷ 4 ∷ 5 ∷ 6 ∷ 7 ∷ 8 ∷ 9 ∷ 11 ∷ 12 ∷ []) 10 tt h)
-other-room Constants h = refl
-other-room Help h = refl
+returns c = λ numbers. rw (c .enum-told .given .1) refl
 
 returns-2 : tie.Need-returns-2
-returns-2 c = other-room (c .before .args .r) (c .match .keys2)
+unfolding roomOf
+returns-2 c = λ numbers. rw (c .enum-told2 .given .1) refl
+
+-- every answer but that of years and that of a sheet asks for the room of one line
+other-room : (r : DeskAnswer) (numbers : List ℕ) → OneOf (0 ∷ 1 ∷ 2 ∷ 3 ∷ 4 ∷ 5 ∷ 6 ∷ 7 ∷ 8 ∷ 9 ∷ 12 ∷ 13 ∷ []) (tagOf the-type r) → lineRoom ≡ roomOf (deskSaid r numbers)
+unfolding roomOf
+other-room Malformed numbers k = refl
+other-room (Number a) numbers k = refl
+other-room (Moment a) numbers k = refl
+other-room (Signed a) numbers k = refl
+other-room (Month a) numbers k = refl
+other-room (Name n) numbers k = refl
+other-room (Hour h) numbers k = refl
+other-room (Days d) numbers k = refl
+other-room (Terms a) numbers k = refl
+other-room (Year a) numbers k = refl
+other-room (Years a) numbers k = absurd (miss (0 ∷ 1 ∷ 2 ∷ 3 ∷ 4 ∷ 5 ∷ 6 ∷ 7 ∷ 8 ∷ 9 ∷ 12 ∷ 13 ∷ []) 10 tt k)
+other-room (Sheet a) numbers k = absurd (miss (0 ∷ 1 ∷ 2 ∷ 3 ∷ 4 ∷ 5 ∷ 6 ∷ 7 ∷ 8 ∷ 9 ∷ 12 ∷ 13 ∷ []) 11 tt k)
+other-room Constants numbers k = refl
+other-room Help numbers k = refl
+
+returns-3 : tie.Need-returns-3
+returns-3 c = λ numbers. other-room (c .before .args .r) numbers (c .match .keys3)
 
 pub room-for-spec : {M : Type 1} → statement M
-room-for-spec = tie.close (tie.spec enum-told returns returns-2)
+room-for-spec =
+    tie.close (tie.spec (search needs) (search needs) returns returns-2 returns-3)

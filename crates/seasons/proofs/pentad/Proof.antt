@@ -20,12 +20,6 @@ unfolding pentadReply
 returns-3 c =
     simp (le-ltb _ _ (c .before .before .if1 .left), lt-leb _ _ (c .before .if2 .left), lt-ltb _ _ (c .if3 .taken))
 
-term-time-requires : tie.Need-term-time-requires
-term-time-requires c κs = search needs
-
-mul-t6 : tie.Need-mul-t6
-mul-t6 c = search needs
-
 add-t7 : tie.Need-add-t7
 add-t7 c =
     let a = c .before .before .before .before .args in
@@ -43,4 +37,4 @@ returns-4 c =
 
 pub pentad-spec : {M : Type 1} → statement M
 pentad-spec =
-    tie.close (tie.spec returns returns-2 returns-3 term-time-requires mul-t6 add-t7 returns-4)
+    tie.close (tie.spec returns returns-2 returns-3 (search needs) (search needs) add-t7 returns-4)

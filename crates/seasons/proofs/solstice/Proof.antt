@@ -9,15 +9,10 @@ returns : tie.Need-returns
 unfolding solsticeReply
 returns c = simp (lt-ltb _ _ (c .if1 .taken))
 
-mul-t3 : tie.Need-mul-t3
-mul-t3 c = search needs
-
-add-t4 : tie.Need-add-t4
-add-t4 c = search needs
-
 returns-2 : tie.Need-returns-2
 unfolding solsticeReply solstice
 returns-2 c = simp (le-ltb _ _ (c .if1 .left))
 
 pub solstice-spec : {M : Type 1} → statement M
-solstice-spec = tie.close (tie.spec returns mul-t3 add-t4 returns-2)
+solstice-spec =
+    tie.close (tie.spec returns (search needs) (search needs) returns-2)

@@ -13,13 +13,11 @@ returns-2 : tie.Need-returns-2
 unfolding termReply
 returns-2 c = simp (le-ltb _ _ (c .before .if1 .left), le-leb _ _ (c .if2 .taken))
 
-term-time-requires : tie.Need-term-time-requires
-term-time-requires c κs = search needs
-
 returns-3 : tie.Need-returns-3
 unfolding termReply
 returns-3 c =
     simp (le-ltb _ _ (c .before .before .if1 .left), lt-leb _ _ (c .before .if2 .left), c .term-time .ensures)
 
 pub term-spec : {M : Type 1} → statement M
-term-spec = tie.close (tie.spec returns returns-2 term-time-requires returns-3)
+term-spec =
+    tie.close (tie.spec returns returns-2 (search needs) returns-3)

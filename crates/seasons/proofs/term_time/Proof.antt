@@ -6,21 +6,10 @@ use Rattle.seasons.specs.Terms.{term}
 use Rattle.seasons.proofs.term_time.Statement.{statement}
 use Rattle.seasons.proofs.term_time.Tie as tie
 
-mul-result : tie.Need-mul-result
-mul-result c = search needs
-
-add-result : tie.Need-add-result
-add-result c = search needs
-
-mul-result-2 : tie.Need-mul-result-2
-mul-result-2 c = search needs
-
-add-result-2 : tie.Need-add-result-2
-add-result-2 c = search needs
-
 returns : tie.Need-returns
 unfolding term solstice
 returns c = refl
 
 pub term-time-spec : {M : Type 1} → statement M
-term-time-spec = tie.close (tie.spec mul-result add-result mul-result-2 add-result-2 returns)
+term-time-spec =
+    tie.close (tie.spec (search needs) (search needs) (search needs) (search needs) returns)

@@ -8,11 +8,9 @@ use Rattle.signed.proofs.Integers.{integer-ahead}
 use Rattle.signed.proofs.ahead.Statement.{statement}
 use Rattle.signed.proofs.ahead.Tie as tie
 
-cast-result : tie.Need-cast-result
-cast-result c = search needs
-
 returns : tie.Need-returns
 returns c = toZ-pos w64 (omega arith) ∙ sym (integer-ahead (c .args .magnitude))
 
 pub ahead-spec : {M : Type 1} → statement M
-ahead-spec = tie.close (tie.spec cast-result returns)
+ahead-spec =
+    tie.close (tie.spec (search needs) returns)

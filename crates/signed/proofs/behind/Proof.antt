@@ -9,9 +9,6 @@ use Rattle.signed.proofs.Integers.{integer-behind, held, opposite, oppo
 use Rattle.signed.proofs.behind.Statement.{statement}
 use Rattle.signed.proofs.behind.Tie as tie
 
-cast-result : tie.Need-cast-result
-cast-result c = search needs
-
 sub-result : tie.Need-sub-result
 sub-result c =
     let m = c .args .magnitude in
@@ -28,4 +25,5 @@ returns c =
     (sym (integer-behind m))
 
 pub behind-spec : {M : Type 1} → statement M
-behind-spec = tie.close (tie.spec cast-result sub-result returns)
+behind-spec =
+    tie.close (tie.spec (search needs) sub-result returns)

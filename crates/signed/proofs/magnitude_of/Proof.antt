@@ -84,10 +84,6 @@ returns c =
     let n = below (c .before .args .number) f (c .if1 .taken) in
     simp (toZ-ofZ f, toZ-ofZ (n .up-fits), n .opposite, toZ-pos w64 (f .sfits)) (n .size)
 
-returns-2 : tie.Need-returns-2
-returns-2 c = search needs
-
 pub magnitude-of-spec : {M : Type 1} → statement M
 magnitude-of-spec =
-    tie.close
-    (tie.spec add-result sub-result cast-result add-result-2 cast-result-2 returns returns-2)
+    tie.close (tie.spec add-result sub-result cast-result add-result-2 cast-result-2 returns (λ c. search needs))

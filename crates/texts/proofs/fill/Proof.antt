@@ -8,17 +8,12 @@ use borrow.Rule.Slice.PartMut.{same-len-mid}
 use denote.Ref.{now}
 use lib.ListN.{length, getD, take, drop, length-take, length-drop}
 use lib.Seq.{drop-length, length-take-le}
-use Rattle.measure.specs.Row.{over}
-use Rattle.measure.proofs.Row.{more-written}
+use Rattle.rows.specs.Row.{over}
+use Rattle.rows.proofs.Row.{more-written}
 use Rattle.texts.specs.Text.{piece, filled, mostDigits}
 use Rattle.texts.proofs.TextLaws.{filled-step}
 use Rattle.texts.proofs.fill.Statement.{statement}
 use Rattle.texts.proofs.fill.Tie as tie
-use Rattle.texts.proofs.fill.Reads as reads
-use Rattle.texts.proofs.fill.Lts as lts
-use Rattle.texts.proofs.number_at.Reads as number-at-reads
-use Rattle.texts.proofs.numbers_taken.Reads as numbers-taken-reads
-use Rattle.texts.proofs.put_piece.Reads as put-piece-reads
 
 abbrev Inv-loop : tie.InvT-loop
 Inv-loop template numbers row₀ used₀ next₀ i₀ row used next i =
@@ -33,38 +28,14 @@ loop-holds : tie.Need-loop-holds Inv-loop μ-loop
 unfolding over
 loop-holds c = (omega arith, omega arith, omega arith, refl, refl, refl)
 
-shared-slice-read-b : tie.Need-shared-slice-read-b Inv-loop μ-loop
-shared-slice-read-b c = omega arith
-
 number-at-requires : tie.Need-number-at-requires Inv-loop μ-loop
 number-at-requires c κs = tt
-
-sub-put-piece : tie.Need-sub-put-piece Inv-loop μ-loop
-sub-put-piece c = omega arith
-
-part-put-piece-start : tie.Need-part-put-piece-start Inv-loop μ-loop
-part-put-piece-start c = omega arith
-
-part-put-piece-end : tie.Need-part-put-piece-end Inv-loop μ-loop
-part-put-piece-end c = omega arith
 
 put-piece-requires : tie.Need-put-piece-requires Inv-loop μ-loop
 put-piece-requires c κs = simp (length-take, length-drop) (omega arith)
 
-add-used : tie.Need-add-used Inv-loop μ-loop
-add-used c = omega arith
-
 numbers-taken-requires : tie.Need-numbers-taken-requires Inv-loop μ-loop
 numbers-taken-requires c κs = tt
-
-add-next : tie.Need-add-next Inv-loop μ-loop
-add-next c = omega arith
-
-add-i : tie.Need-add-i Inv-loop μ-loop
-add-i c = omega arith
-
-loop-less : tie.Need-loop-less Inv-loop μ-loop
-loop-less c = omega arith
 
 loop-again : tie.Need-loop-again Inv-loop μ-loop
 loop-again c =
@@ -111,21 +82,6 @@ returns c =
 pub fill-spec : {M : Type 1} → statement M
 fill-spec =
     tie.close
-    (tie.spec
-    Inv-loop
-    μ-loop
-    loop-holds
-    shared-slice-read-b
-    number-at-requires
-    sub-put-piece
-    part-put-piece-start
-    part-put-piece-end
-    put-piece-requires
-    add-used
-    numbers-taken-requires
-    add-next
-    add-i
-    loop-less
-    loop-again
-    same-length
-    returns)
+    (tie.spec Inv-loop μ-loop loop-holds (λ c. omega arith) number-at-requires (λ c. omega arith) (λ c. omega arith)
+    (λ c. omega arith) put-piece-requires (λ c. omega arith) numbers-taken-requires (λ c. omega arith) (λ c. omega arith)
+    (λ c. omega arith) loop-again same-length returns)

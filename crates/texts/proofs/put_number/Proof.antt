@@ -7,20 +7,11 @@ use borrow.Author.Needs.{needs}
 use denote.Ref.{now}
 use lib.ListN.{length, take, drop}
 use lib.Seq.{take-length}
-use Rattle.measure.specs.Row.{over}
+use Rattle.rows.specs.Row.{over}
 use Rattle.texts.specs.Text.{decimal, mostDigits}
 use Rattle.texts.proofs.DecimalLaws.{few-digits, fewest-digits}
 use Rattle.texts.proofs.put_number.Statement.{statement}
 use Rattle.texts.proofs.put_number.Tie as tie
-
-decimal-requires : tie.Need-decimal-requires
-decimal-requires c κs = search needs
-
-array-share-prefix-digits : tie.Need-array-share-prefix-digits
-array-share-prefix-digits c = search needs
-
-slice-aggregate-copy : tie.Need-slice-aggregate-copy
-slice-aggregate-copy c = search needs
 
 copy-requires : tie.Need-copy-requires
 copy-requires c κs =
@@ -31,9 +22,6 @@ copy-requires c κs =
       few-digits (made .decimal .result) (a .n) (omega arith) (made .decimal .ensures .1 .0),
       made .decimal .ensures .0 .1,
     )
-
-same-length : tie.Need-same-length
-same-length c = search needs
 
 -- what a copy of all bytes leaves
 copied : (new s row now : List ℕ) → now ≡ take (length s) s ++ drop (length s) row → s ≡ new → now ≡ over new row
@@ -55,11 +43,4 @@ returns c =
 
 pub put-number-spec : {M : Type 1} → statement M
 put-number-spec =
-    tie.close
-    (tie.spec
-    decimal-requires
-    array-share-prefix-digits
-    slice-aggregate-copy
-    copy-requires
-    same-length
-    returns)
+    tie.close (tie.spec (search needs) (search needs) (search needs) copy-requires (search needs) returns)

@@ -6,18 +6,12 @@ use native.Mathlib.Omega.{arith}
 use borrow.Author.Needs.{needs}
 use borrow.Author.Tests.{eq-eqb, ne-eqb}
 use denote.Ref.{now}
-use Rattle.measure.specs.Choice.{_=?_}
-use Rattle.measure.specs.Row.{over}
-use Rattle.measure.proofs.Row.{put}
+use Rattle.rows.specs.Choice.{_=?_}
+use Rattle.rows.specs.Row.{over}
+use Rattle.rows.proofs.Row.{put}
 use Rattle.texts.specs.Text.{hole, piece}
 use Rattle.texts.proofs.put_piece.Statement.{statement}
 use Rattle.texts.proofs.put_piece.Tie as tie
-
-put-number-requires : tie.Need-put-number-requires
-put-number-requires c κs = search needs
-
-same-length : tie.Need-same-length
-same-length c = search needs
 
 returns : tie.Need-returns
 unfolding piece
@@ -28,12 +22,6 @@ returns c =
     let t : (a .b =? hole) ≡ true = eq-eqb (a .b) hole (at .if1 .taken) in
     (put .put-number .ensures .0, (rw t (put .put-number .ensures .1 .0), rw t (put .put-number .ensures .1 .1)))
 
-slice-write-row : tie.Need-slice-write-row
-slice-write-row c = search needs
-
-same-length-2 : tie.Need-same-length-2
-same-length-2 c = search needs
-
 returns-2 : tie.Need-returns-2
 unfolding piece over
 returns-2 c =
@@ -43,5 +31,4 @@ returns-2 c =
 
 pub put-piece-spec : {M : Type 1} → statement M
 put-piece-spec =
-    tie.close
-    (tie.spec put-number-requires same-length returns slice-write-row same-length-2 returns-2)
+    tie.close (tie.spec (search needs) (search needs) returns (search needs) (search needs) returns-2)

@@ -6,7 +6,7 @@ use borrow.Author.Needs.{needs}
 use borrow.Author.Tests.{lt-ltb, le-ltb}
 use denote.Ref.{now}
 use lib.ListN.{length}
-use Rattle.measure.specs.Reply.{answer}
+use Rattle.rows.specs.Reply.{answer}
 use Rattle.texts.specs.Text.{textRoom, textReply}
 use Rattle.texts.proofs.write_text.Statement.{statement}
 use Rattle.texts.proofs.write_text.Tie as tie
@@ -18,12 +18,6 @@ returns c =
     let short : length (now (a .row)) < textRoom (now (a .template)) = omega arith in
     (simp (lt-ltb _ _ short), simp (lt-ltb _ _ short))
 
-fill-requires : tie.Need-fill-requires
-fill-requires c κs = omega arith
-
-same-length : tie.Need-same-length
-same-length c = search needs
-
 returns-2 : tie.Need-returns-2
 unfolding textReply
 returns-2 c =
@@ -33,4 +27,5 @@ returns-2 c =
     (simp (le-ltb _ _ room) (ap answer (at .fill .ensures .0)), simp (le-ltb _ _ room) (at .fill .ensures .1))
 
 pub write-text-spec : {M : Type 1} → statement M
-write-text-spec = tie.close (tie.spec returns fill-requires same-length returns-2)
+write-text-spec =
+    tie.close (tie.spec returns (λ c κs. omega arith) (search needs) returns-2)

@@ -5,14 +5,9 @@ use Rattle.timing.specs.Timed.{numberTold}
 use Rattle.timing.proofs.timing_true_moon.Statement.{statement}
 use Rattle.timing.proofs.timing_true_moon.Tie as tie
 
-true-moon-requires : tie.Need-true-moon-requires
-true-moon-requires c κs = search needs
-
-number-told-requires : tie.Need-number-told-requires
-number-told-requires c κs = search needs
-
 returns : tie.Need-returns
 returns c = c .number-told .ensures ∙ ap numberTold (c .before .true-moon .ensures)
 
 pub timing-true-moon-spec : {M : Type 1} → statement M
-timing-true-moon-spec = tie.close (tie.spec true-moon-requires number-told-requires returns)
+timing-true-moon-spec =
+    tie.close (tie.spec (search needs) (search needs) returns)

@@ -3,34 +3,25 @@ use mathlib.Core.Path.{_≡_, _∙_, sym, ap, subst}
 use Prim.Native.Nat.{ℕ}
 use borrow.Author.Needs.{needs}
 use Rattle.measure.specs.Epoch.{shoushi}
-use Rattle.months.specs.Month.{dayReply, replySaid}
-use Rattle.months.specs.declared.Reply.{Reply as ReplyCase}
+use Rattle.months.specs.Month.{dayReply, monthAnswerSaid}
+use Rattle.months.specs.declared.MonthAnswer.{MonthAnswer as ReplyCase}
 use Rattle.viewer.specs.Told.{dayTold}
 use Rattle.viewer.proofs.Fitting.{ReplyFits, reply-fits}
 use Rattle.viewer.proofs.lengadriu_day.Statement.{statement}
 use Rattle.viewer.proofs.lengadriu_day.Tie as tie
 
 -- the reply that was got, once its case is known
-module _ (d : ℕ) (got known : ReplyCase) (ensured : replySaid got ≡ dayReply shoushi d) (case : got ≡ known) where
-  said : replySaid known ≡ dayReply shoushi d
-  said = sym (ap replySaid case) ∙ ensured
+module _ (d : ℕ) (got known : ReplyCase) (ensured : monthAnswerSaid got ≡ dayReply shoushi d) (case : got ≡ known) where
+  said : monthAnswerSaid known ≡ dayReply shoushi d
+  said = sym (ap monthAnswerSaid case) ∙ ensured
 
-  fits : ReplyFits (replySaid known)
+  fits : ReplyFits (monthAnswerSaid known)
   fits = subst ReplyFits (sym said) (reply-fits d)
-
-month-of-requires : tie.Need-month-of-requires
-month-of-requires c κs = search needs
-
-enum-known-m : tie.Need-enum-known-m
-enum-known-m c = search needs
 
 month-told-requires : tie.Need-month-told-requires
 month-told-requires c κs =
     let at = c .before .before .before in
     fits (at .before .args .d) (at .month-of .result) _ (at .month-of .ensures) (c .before .m .given .1) .0
-
-enum-known-k : tie.Need-enum-known-k
-enum-known-k c = search needs
 
 day-refused-requires : tie.Need-day-refused-requires
 day-refused-requires c κs =
@@ -51,12 +42,4 @@ returns-2 c =
 
 pub lengadriu-day-spec : {M : Type 1} → statement M
 lengadriu-day-spec =
-    tie.close
-    (tie.spec
-    month-of-requires
-    enum-known-m
-    month-told-requires
-    enum-known-k
-    day-refused-requires
-    returns
-    returns-2)
+    tie.close (tie.spec (search needs) (search needs) month-told-requires (search needs) day-refused-requires returns returns-2)

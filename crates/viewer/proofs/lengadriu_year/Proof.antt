@@ -7,25 +7,13 @@ use Prim.Native.Nat.{ℕ}
 use native.Mathlib.Omega.{arith}
 use borrow.Author.Needs.{needs}
 use denote.Ref.{now}
-use Rattle.measure.specs.Row.{over}
-use Rattle.record_bytes.specs.Bytes.{bytesOf}
+use Rattle.rows.specs.Row.{over}
+use Rattle.viewer.specs.Bytes.{bytesOf}
 use Rattle.viewer.specs.Room.{roomIn}
 use Rattle.viewer.specs.Told.{countTold}
 use Rattle.viewer.proofs.YearReply.{count-most, short-refused, long-answered, numbers-given, year-refused, refused-in-any}
 use Rattle.viewer.proofs.lengadriu_year.Statement.{statement}
 use Rattle.viewer.proofs.lengadriu_year.Tie as tie
-
-slice-aggregate-list : tie.Need-slice-aggregate-list
-slice-aggregate-list c = search needs
-
-list-requires : tie.Need-list-requires
-list-requires c κs = search needs
-
-enum-known-records : tie.Need-enum-known-records
-enum-known-records c = search needs
-
-count-refused-requires : tie.Need-count-refused-requires
-count-refused-requires c κs = search needs
 
 returns : tie.Need-returns
 unfolding roomIn
@@ -37,9 +25,6 @@ returns c =
     short-refused (a .n) _ (list .result) (list .ensures .0) (got .records .given .1) (roomIn (now (a .row)))
     (c .before .if1 .taken) in
     (c .count-refused .ensures ∙ ap countTold (sym reply), rw reply)
-
-slice-aggregate-put-numbers : tie.Need-slice-aggregate-put-numbers
-slice-aggregate-put-numbers c = search needs
 
 mul-put-numbers : tie.Need-mul-put-numbers
 mul-put-numbers c =
@@ -63,18 +48,12 @@ cast-t19 c =
     let a = got .before .before .before .before .before .before .args in
     omega (arith, count-most (a .n) (got .records .given .0 .0) (list .result) (list .ensures .0) (got .records .given .1))
 
-enum-known-k : tie.Need-enum-known-k
-enum-known-k c = search needs
-
 count-refused-requires-2 : tie.Need-count-refused-requires-2
 count-refused-requires-2 c κs =
     let got = c .before in
     let list = got .before .before .before .list in
     let a = got .before .before .before .before .before .before .args in
     omega (arith, year-refused (a .n) (got .k .given .0 .0) (list .result) (list .ensures .0) (got .k .given .1))
-
-same-length : tie.Need-same-length
-same-length c = search needs
 
 returns-2 : tie.Need-returns-2
 unfolding roomIn
@@ -101,18 +80,5 @@ returns-3 c =
 pub lengadriu-year-spec : {M : Type 1} → statement M
 lengadriu-year-spec =
     tie.close
-    (tie.spec
-    slice-aggregate-list
-    list-requires
-    enum-known-records
-    count-refused-requires
-    returns
-    slice-aggregate-put-numbers
-    mul-put-numbers
-    put-numbers-requires
-    cast-t19
-    enum-known-k
-    count-refused-requires-2
-    same-length
-    returns-2
-    returns-3)
+    (tie.spec (search needs) (search needs) (search needs) (search needs) returns (search needs) mul-put-numbers
+    put-numbers-requires cast-t19 (search needs) count-refused-requires-2 (search needs) returns-2 returns-3)

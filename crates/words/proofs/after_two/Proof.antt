@@ -8,29 +8,11 @@ use Rattle.words.proofs.after_two.Tie as tie
 returns : tie.Need-returns
 returns c = simp (eq-eqb _ _ (c .if1 .taken))
 
-part-in-requires : tie.Need-part-in-requires
-part-in-requires c κs = search needs
-
-number-in-requires : tie.Need-number-in-requires
-number-in-requires c κs = search needs
-
-enum-known-c : tie.Need-enum-known-c
-enum-known-c c = search needs
-
-enum-told : tie.Need-enum-told
-enum-told c = search needs
-
 returns-2 : tie.Need-returns-2
 returns-2 c =
     let n = c .before .before in
     let p = n .before in
     simp (ne-eqb _ _ (p .before .if1 .left), ← p .part-in .ensures, ← n .number-in .ensures, c .enum-told .given .1)
-
-rest-in-requires : tie.Need-rest-in-requires
-rest-in-requires c κs = search needs
-
-after-three-requires : tie.Need-after-three-requires
-after-three-requires c κs = search needs
 
 returns-3 : tie.Need-returns-3
 returns-3 c =
@@ -43,13 +25,5 @@ returns-3 c =
 pub after-two-spec : {M : Type 1} → statement M
 after-two-spec =
     tie.close
-    (tie.spec
-    returns
-    part-in-requires
-    number-in-requires
-    enum-known-c
-    enum-told
-    returns-2
-    rest-in-requires
-    after-three-requires
+    (tie.spec returns (search needs) (search needs) (search needs) (search needs) returns-2 (search needs) (search needs)
     returns-3)

@@ -10,30 +10,12 @@ returns : tie.Need-returns
 unfolding numbersOf
 returns c = simp (eq-eqb _ _ (c .if1 .taken))
 
-part-in-requires : tie.Need-part-in-requires
-part-in-requires c κs = search needs
-
-number-in-requires : tie.Need-number-in-requires
-number-in-requires c κs = search needs
-
-enum-known-a : tie.Need-enum-known-a
-enum-known-a c = search needs
-
-enum-told : tie.Need-enum-told
-enum-told c = search needs
-
 returns-2 : tie.Need-returns-2
 unfolding numbersOf
 returns-2 c =
     let n = c .before .before in
     let p = n .before in
     simp (ne-eqb _ _ (p .before .if1 .left), ← p .part-in .ensures, ← n .number-in .ensures, c .enum-told .given .1)
-
-rest-in-requires : tie.Need-rest-in-requires
-rest-in-requires c κs = search needs
-
-after-one-requires : tie.Need-after-one-requires
-after-one-requires c κs = search needs
 
 returns-3 : tie.Need-returns-3
 unfolding numbersOf
@@ -47,13 +29,5 @@ returns-3 c =
 pub numbers-in-spec : {M : Type 1} → statement M
 numbers-in-spec =
     tie.close
-    (tie.spec
-    returns
-    part-in-requires
-    number-in-requires
-    enum-known-a
-    enum-told
-    returns-2
-    rest-in-requires
-    after-one-requires
+    (tie.spec returns (search needs) (search needs) (search needs) (search needs) returns-2 (search needs) (search needs)
     returns-3)

@@ -29,12 +29,6 @@ loop-holds c =
     let z : length s - 0 ≡ length s = omega arith in
     (omega arith, rw (z, zero-add))
 
-part-in-requires : tie.Need-part-in-requires Inv-loop μ-loop
-part-in-requires c κs = search needs
-
-same-requires : tie.Need-same-requires Inv-loop μ-loop
-same-requires c κs = search needs
-
 returns : tie.Need-returns Inv-loop μ-loop
 returns c =
     let l = c .before .before .before .before in
@@ -43,12 +37,6 @@ returns c =
     let e : same (now (args .word)) (partOf left) ≡ true =
     rw (← c .before .before .part-in .ensures) (told-same (c .before .same .ensures) (c .if1 .taken)) in
     omega (arith, l .loop .inv .1, is-here (now (args .word)) left (length (now (args .list)) - l .loop .k) (omega arith) e)
-
-rest-in-requires : tie.Need-rest-in-requires Inv-loop μ-loop
-rest-in-requires c κs = search needs
-
-add-k : tie.Need-add-k Inv-loop μ-loop
-add-k c = omega arith
 
 loop-less : tie.Need-loop-less Inv-loop μ-loop
 loop-less c =
@@ -81,15 +69,5 @@ returns-2 c =
 pub place-of-spec : {M : Type 1} → statement M
 place-of-spec =
     tie.close
-    (tie.spec
-    Inv-loop
-    μ-loop
-    loop-holds
-    part-in-requires
-    same-requires
-    returns
-    rest-in-requires
-    add-k
-    loop-less
-    loop-again
-    returns-2)
+    (tie.spec Inv-loop μ-loop loop-holds (search needs) (search needs) returns (search needs) (λ c. omega arith) loop-less
+    loop-again returns-2)

@@ -8,22 +8,9 @@ use Rattle.words.proofs.rest_in.Tie as tie
 returns : tie.Need-returns
 returns c = rest-none _ (c .if1 .taken)
 
-find-requires : tie.Need-find-requires
-find-requires c κs = search needs
-
-sub-result : tie.Need-sub-result
-sub-result c = search needs
-
-part-result-start : tie.Need-part-result-start
-part-result-start c = search needs
-
-part-result-end : tie.Need-part-result-end
-part-result-end c = search needs
-
 returns-2 : tie.Need-returns-2
 returns-2 c = rest-from _ _ (c .before .find .ensures .0 ∙ end-is _)
 
 pub rest-in-spec : {M : Type 1} → statement M
 rest-in-spec =
-    tie.close
-    (tie.spec returns find-requires sub-result part-result-start part-result-end returns-2)
+    tie.close (tie.spec returns (search needs) (search needs) (search needs) (search needs) returns-2)

@@ -1,36 +1,23 @@
--- `questions::halves::lunar_in` meets its contract: the list in the code has the words of `lunarIn`, in their order.
--- Assumes nothing.
-use mathlib.Core.Path.{_∙_}
+-- `questions::halves::lunar_in` meets its contract: the list in the code has the words of `lunarIn`, in their order. Assumes nothing.
 use borrow.Author.Needs.{needs}
 use denote.Ref.{now}
 use Rattle.bytes.specs.Bytes.{indexOf, indexAfter}
 use Rattle.words.specs.Numbers.{endOf, partOf, restOf}
 use Rattle.words.specs.Place.{placeWithin, placeOf}
-use Rattle.questions.specs.Question.{malformed, lunarIn}
 use Rattle.words.proofs.Chosen.{placed}
+use Rattle.questions.specs.DeskReply.{malformed}
+use Rattle.questions.specs.Question.{lunarIn}
+use Rattle.questions.proofs.Answered.{answers-as}
 use Rattle.questions.proofs.halves.lunar_in.Statement.{statement}
 use Rattle.questions.proofs.halves.lunar_in.Tie as tie
-
-slice-aggregate-place-of : tie.Need-slice-aggregate-place-of
-slice-aggregate-place-of c = search needs
-
-place-of-requires : tie.Need-place-of-requires
-place-of-requires c κs = search needs
-
-lunar-at-requires : tie.Need-lunar-at-requires
-lunar-at-requires c κs = search needs
 
 returns : tie.Need-returns
 unfolding indexOf indexAfter endOf partOf restOf placeWithin placeOf lunarIn
 returns c =
-    let args = c .before .before .before .before .args in
-    c .lunar-at .ensures ∙ placed malformed (now (args .half)) (lunarIn (args .t)) (c .before .place-of .result) (c .before .place-of .ensures)
+    let place = c .before in
+    let a = place .before .before .before .args in
+    λ row. answers-as (placed malformed (now (a .half)) (lunarIn (a .t)) (place .place-of .result) (place .place-of .ensures)) (c .lunar-by .ensures row)
 
 pub lunar-in-spec : {M : Type 1} → statement M
 lunar-in-spec =
-    tie.close
-    (tie.spec
-    slice-aggregate-place-of
-    place-of-requires
-    lunar-at-requires
-    returns)
+    tie.close (tie.spec (search needs) (search needs) (search needs) returns)

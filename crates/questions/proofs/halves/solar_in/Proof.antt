@@ -1,36 +1,23 @@
--- `questions::halves::solar_in` meets its contract: the list in the code has the words of `solarIn`, in their order.
--- Assumes nothing.
-use mathlib.Core.Path.{_∙_}
+-- `questions::halves::solar_in` meets its contract: the list in the code has the words of `solarIn`, in their order. Assumes nothing.
 use borrow.Author.Needs.{needs}
 use denote.Ref.{now}
 use Rattle.bytes.specs.Bytes.{indexOf, indexAfter}
 use Rattle.words.specs.Numbers.{endOf, partOf, restOf}
 use Rattle.words.specs.Place.{placeWithin, placeOf}
-use Rattle.questions.specs.Question.{malformed, solarIn}
 use Rattle.words.proofs.Chosen.{placed}
+use Rattle.questions.specs.DeskReply.{malformed}
+use Rattle.questions.specs.Question.{solarIn}
+use Rattle.questions.proofs.Answered.{answers-as}
 use Rattle.questions.proofs.halves.solar_in.Statement.{statement}
 use Rattle.questions.proofs.halves.solar_in.Tie as tie
-
-slice-aggregate-place-of : tie.Need-slice-aggregate-place-of
-slice-aggregate-place-of c = search needs
-
-place-of-requires : tie.Need-place-of-requires
-place-of-requires c κs = search needs
-
-solar-at-requires : tie.Need-solar-at-requires
-solar-at-requires c κs = search needs
 
 returns : tie.Need-returns
 unfolding indexOf indexAfter endOf partOf restOf placeWithin placeOf solarIn
 returns c =
-    let args = c .before .before .before .before .args in
-    c .solar-at .ensures ∙ placed malformed (now (args .half)) (solarIn (args .t)) (c .before .place-of .result) (c .before .place-of .ensures)
+    let place = c .before in
+    let a = place .before .before .before .args in
+    λ row. answers-as (placed malformed (now (a .half)) (solarIn (a .t)) (place .place-of .result) (place .place-of .ensures)) (c .solar-by .ensures row)
 
 pub solar-in-spec : {M : Type 1} → statement M
 solar-in-spec =
-    tie.close
-    (tie.spec
-    slice-aggregate-place-of
-    place-of-requires
-    solar-at-requires
-    returns)
+    tie.close (tie.spec (search needs) (search needs) (search needs) returns)

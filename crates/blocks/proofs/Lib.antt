@@ -1,3 +1,0 @@
-pub mod BlockLaws
-pub mod Kept
-pub mod Unique

@@ -1,0 +1,12 @@
+pub mod Evaluation
+pub mod Sizes
+pub mod Cubic
+pub mod LawStep
+pub mod NearerEnd
+pub mod MotionRows
+pub mod MotionAt
+pub mod Gentle
+pub mod SolarStep
+pub mod LunarStep
+pub mod MotionStep
+pub mod Unique

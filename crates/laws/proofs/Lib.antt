@@ -1,5 +1,0 @@
-pub mod Evaluation
-pub mod Sizes
-pub mod Cubic
-pub mod LawStep
-pub mod Unique

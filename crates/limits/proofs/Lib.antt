@@ -1,2 +1,0 @@
-pub mod NearerEnd
-pub mod Unique

@@ -1,3 +1,0 @@
-pub mod ListLaws
-pub mod RecordLaws
-pub mod Unique

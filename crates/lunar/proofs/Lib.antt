@@ -1,4 +1,0 @@
-pub mod NearerEnd
-pub mod Sizes
-pub mod Cubic
-pub mod Unique

@@ -1,0 +1,17 @@
+-- `kinds::month_number` meets its contract, case by case. Assumes nothing.
+use mathlib.Core.Path.{sym, ap}
+use borrow.Author.Needs.{needs}
+use Rattle.months.specs.declared.kinds.Kind.{Kind}
+use Rattle.months.specs.Kind.{kindSaid, numberIn}
+use Rattle.months.proofs.kinds.month_number.Statement.{statement}
+use Rattle.months.proofs.kinds.month_number.Tie as tie
+
+returns : tie.Need-returns
+returns c = sym (ap (λ (kind : Kind). numberIn (kindSaid kind)) (c .before .kind .given .1))
+
+returns-2 : tie.Need-returns-2
+returns-2 c = sym (ap (λ (kind : Kind). numberIn (kindSaid kind)) (c .before .kind2 .given .1))
+
+pub month-number-spec : {M : Type 1} → statement M
+month-number-spec =
+    tie.close (tie.spec (search needs) (search needs) returns returns-2)

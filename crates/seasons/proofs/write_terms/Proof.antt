@@ -1,0 +1,49 @@
+-- `term_lists::write_terms` meets its contract: after i turns the row holds the first i terms, and past them what it held.
+-- Assumes nothing.
+use mathlib.Core.Path.{_≡_, _∙_, refl, ap}
+use Prim.Native.Nat.{ℕ, _-_, _≤_}
+use native.Mathlib.Omega.{arith}
+use lib.ListN.{length, length-set}
+use denote.Ref.{now}
+use Rattle.measure.specs.Epoch.{shoushi}
+use Rattle.rows.specs.Row.{listed, over}
+use Rattle.rows.proofs.Row.{put-listed}
+use Rattle.seasons.specs.Terms.{terms, term, termList}
+use Rattle.seasons.proofs.write_terms.Statement.{statement}
+use Rattle.seasons.proofs.write_terms.Tie as tie
+
+abbrev Inv-loop : tie.InvT-loop
+Inv-loop n row₀ i₀ row i = (i ≤ terms) × (length row ≡ length row₀) × (row ≡ over (listed (term shoushi n) 0 i) row₀)
+
+abbrev μ-loop : tie.MeasureT-loop
+μ-loop n row₀ i₀ row i = terms - i
+
+loop-holds : tie.Need-loop-holds Inv-loop μ-loop
+unfolding over listed
+loop-holds c = (omega arith, refl, refl)
+
+loop-again : tie.Need-loop-again Inv-loop μ-loop
+loop-again c =
+    let at = c .before .before in
+    let a = at .before .before .args in (
+      omega arith,
+      simp length-set (at .loop .inv .1),
+      rw (c .term-time .ensures)
+          (put-listed (term shoushi (a .n)) (now (a .row)) (at .loop .row) (at .loop .i) (at .loop .inv .2) (omega arith)),
+    )
+
+same-length : tie.Need-same-length Inv-loop μ-loop
+same-length c = c .before .loop .inv .1
+
+returns : tie.Need-returns Inv-loop μ-loop
+unfolding termList
+returns c =
+    let a = c .before .before .before .args in
+    let all : c .before .loop .i ≡ terms = omega arith in
+    c .before .loop .inv .2 ∙ ap (λ (i : ℕ). over (listed (term shoushi (a .n)) 0 i) (now (a .row))) all
+
+pub write-terms-spec : {M : Type 1} → statement M
+write-terms-spec =
+    tie.close
+    (tie.spec Inv-loop μ-loop loop-holds (λ c κs. omega arith) (λ c. omega arith) (λ c. omega arith) (λ c. omega arith)
+    (λ c. omega arith) loop-again same-length returns)

@@ -1,4 +1,0 @@
-pub mod MarkLaws
-pub mod YearLaws
-pub mod FoundLaws
-pub mod Unique

@@ -1,3 +1,0 @@
-pub mod MarkWords
-pub mod SheetText
-pub mod Reading
