@@ -29,7 +29,7 @@ use Rattle.questions.specs.Question.{withOne, withTwo, onNumbers, onMarks, long
 use Rattle.replies.specs.ListText.{yearsRoom}
 use Rattle.replies.specs.ReplyText.{replyText, roomOf, replyReply}
 use Rattle.replies.specs.AnswerText.{mostNumbers, answerText, answerRoom, answerReply}
-use Rattle.replies.proofs.ReplyLaws.{room-most}
+use Rattle.replies.proofs.ReplyLaws.{room-between}
 
 -- a number for each year is enough for every list but the months of many years
 on-marks : (m : Reply (List Mark)) → onMarks shoushi (suc lastYear) m ≡ onMarks shoushi mostNumbers m
@@ -65,4 +65,4 @@ answered-as line row a e h = rw e at h
 pub answered-whole : (line : List ℕ) (room : ℕ) → yearsRoom ≤ room → answerReply shoushi line room ≡ answer (length (answerText shoushi line))
 unfolding answerReply answerRoom
 answered-whole line room h =
-    simp (le-ltb room (roomOf (replyTo shoushi mostNumbers line)) (omega (arith, room-most (replyTo shoushi mostNumbers line))))
+    simp (le-ltb room (roomOf (replyTo shoushi mostNumbers line)) (omega (arith, room-between (replyTo shoushi mostNumbers line) .1)))

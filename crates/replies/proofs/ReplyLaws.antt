@@ -8,6 +8,7 @@ use lib.ListN.{length}
 use Rattle.rows.specs.Row.{over}
 use Rattle.questions.specs.DeskReply.{DeskReply, malformed, number, moment, signed, month, name, hour, days, terms, year, years, sheet, constants, help, deskSaid, Lies}
 use Rattle.questions.specs.declared.DeskAnswer.{DeskAnswer}
+use Rattle.replies.specs.LineText.{lineRoom}
 use Rattle.replies.specs.ListText.{yearsRoom}
 use Rattle.replies.specs.ReplyText.{replyText, roomOf}
 use Rattle.replies.proofs.LineTextLaws.{told-so}
@@ -24,20 +25,20 @@ module _ (ns : List ℕ) {r case : DeskAnswer} (e : r ≡ case) where
       → (n ≡ length (replyText (deskSaid r ns))) × (now ≡ over (replyText (deskSaid r ns)) row)
   case-told row h = told-so row (ap (λ (x : DeskAnswer). replyText (deskSaid x ns)) (sym e)) h
 
--- no reply asks for more room than the records of all years
-pub room-most : (r : DeskReply) → roomOf r ≤ yearsRoom
+-- every reply asks for the room of a line at least, and of the records of all years at most
+pub room-between : (r : DeskReply) → (lineRoom ≤ roomOf r) × (roomOf r ≤ yearsRoom)
 unfolding roomOf
-room-most malformed = omega arith
-room-most (number r) = omega arith
-room-most (moment r) = omega arith
-room-most (signed r) = omega arith
-room-most (month r) = omega arith
-room-most (name n) = omega arith
-room-most (hour r) = omega arith
-room-most (days r) = omega arith
-room-most (terms r) = omega arith
-room-most (year r) = omega arith
-room-most (years r) = omega arith
-room-most (sheet r) = omega arith
-room-most constants = omega arith
-room-most help = omega arith
+room-between malformed = (omega arith, omega arith)
+room-between (number r) = (omega arith, omega arith)
+room-between (moment r) = (omega arith, omega arith)
+room-between (signed r) = (omega arith, omega arith)
+room-between (month r) = (omega arith, omega arith)
+room-between (name n) = (omega arith, omega arith)
+room-between (hour r) = (omega arith, omega arith)
+room-between (days r) = (omega arith, omega arith)
+room-between (terms r) = (omega arith, omega arith)
+room-between (year r) = (omega arith, omega arith)
+room-between (years r) = (omega arith, omega arith)
+room-between (sheet r) = (omega arith, omega arith)
+room-between constants = (omega arith, omega arith)
+room-between help = (omega arith, omega arith)

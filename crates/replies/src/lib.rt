@@ -102,7 +102,7 @@ fn room_for(r: DeskAnswer) -> usize
 }
 
 fn put_reply(r: DeskAnswer, numbers: &[u64], row: &mut [u8]) -> usize
-    requires { ⌜ Lies r (length (now numbers)) × (roomOf (deskSaid r (now numbers)) ≤ length (now row)) ⌝ }
+    requires { ⌜ (lineRoom ≤ length (now row)) × Lies r (length (now numbers)) × (roomOf (deskSaid r (now numbers)) ≤ length (now row)) ⌝ }
     ensures { λ n. ⌜ n ≡ length (replyText (deskSaid r (now (numbers .entry)))) ⌝ }
     ensures { λ _. ⌜ now (row .exit) ≡ over (replyText (deskSaid r (now (numbers .entry)))) (now (row .entry)) ⌝ }
 {

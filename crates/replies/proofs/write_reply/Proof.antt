@@ -9,6 +9,7 @@ use lib.ListN.{length}
 use Rattle.rows.specs.Reply.{answer}
 use Rattle.questions.specs.DeskReply.{deskSaid}
 use Rattle.replies.specs.ReplyText.{roomOf, replyReply}
+use Rattle.replies.proofs.ReplyLaws.{room-between}
 use Rattle.replies.proofs.write_reply.Statement.{statement}
 use Rattle.replies.proofs.write_reply.Tie as tie
 
@@ -24,7 +25,9 @@ put-reply-requires : tie.Need-put-reply-requires
 put-reply-requires c κs =
     let asked = c .before .before in
     let start = asked .before .before .before in
-    (start .pre, omega (arith, asked .room-for .ensures (now (start .args .numbers))))
+    let told = deskSaid (start .args .r) (now (start .args .numbers)) in
+    let room = asked .room-for .ensures (now (start .args .numbers)) in
+    (omega (arith, room, room-between told .0), start .pre, omega (arith, room))
 
 returns-2 : tie.Need-returns-2
 unfolding replyReply
