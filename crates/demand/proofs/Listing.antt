@@ -14,30 +14,22 @@ use Rattle.month_law.specs.Demand.{JustOne}
 use Rattle.month_law.proofs.Rising.{Within, rises-weakly, places-of, values-of}
 use Rattle.month_law.proofs.Months.{InMonth, first-rises, day-in-month, month-of, head-zero, head-rises}
 use Rattle.month_law.proofs.Terms.{InList}
-use Rattle.month_law.proofs.Lists.{place-listed, listed-place}
+use Rattle.month_law.proofs.Lists.{place-listed}
 use Rattle.month_law.proofs.Runs.{year-listed, year-of, months-run}
 use Rattle.month_law.proofs.Demand.{Ends}
-use Rattle.months.specs.Month.{kindAt, placed, monthOfDay}
-use Rattle.lists.specs.Records.{recordWidth, recordAt, recordOf}
+use Rattle.months.specs.Month.{kindAt, monthOfDay}
+use Rattle.months.proofs.ByTerm.{month-of-day}
+use Rattle.lists.specs.Records.{recordWidth, recordAt}
 use Rattle.lists.proofs.RecordLaws.{recordBy, by-kind}
 use Rattle.lists.specs.Lists.{monthsInRun}
 use Rattle.lists.proofs.RunLaws.{length-run, run-ends}
-use Rattle.demand.specs.Demand.{listing, shownOn, firstIn, lengthIn, LiesIn, Standing, StandsOn, recordSaid}
+use Rattle.demand.specs.Demand.{listing, shownOn, firstIn, lengthIn, LiesIn, Standing, StandsOn, recordOfMonth}
 use Rattle.demand.proofs.Places.{on-run}
 
 module _ (c : Calendar) (ok : Lawful c) where
   -- from year 0 on, a year's head counts the months before it
   months-before : (n : ℕ) → monthsInRun c 0 n ≡ head c n
   months-before n = omega (arith, run-ends c ok 0 n, head-zero c ok, ap (head c) (zero-add n))
-
-  -- what is found for a day is the record of its month
-  found-as : (d : ℕ) → recordOf c (monthOf c d) ≡ recordSaid (monthOfDay c d)
-  unfolding recordOf monthOfDay placed
-  found-as d =
-      let l = monthOf c d in
-      let n = yearOf c l in
-      sym (by-kind c n (l - head c n))
-      ∙ ap (λ (m : ℕ). recordBy (c .first m) (c .first (suc m)) (kindAt c n (l - head c n))) (listed-place c ok n l (year-listed c ok l))
 
 module _ (c : Calendar) (ok : Lawful c) {last earliest latest beyond : ℕ} (ends : Ends c last earliest latest beyond) where
   pub records-are : monthsInRun c 0 (suc last) ≡ beyond
@@ -87,19 +79,18 @@ module _ (c : Calendar) (ok : Lawful c) {last earliest latest beyond : ℕ} (end
     one-stands = record { it = standing; such = stands-on; only = stands-alone }
 
     -- its record, and the first day and the length there
-    shown-on : shownOn c last i ≡ recordOf c i
-    unfolding recordOf
+    shown-on : shownOn c last i ≡ recordBy (c .first i) (c .first (suc i)) (kindAt c (standing .year) (standing .place))
     shown-on =
         ap (shownOn c last) (sym (stands-on .counted))
         ∙ laid-on (standing .year) (standing .place) (stands-on .admitted) (stands-on .listed)
+        ∙ sym (by-kind c (standing .year) (standing .place))
+        ∙ ap (λ (m : ℕ). recordBy (c .first m) (c .first (suc m)) (kindAt c (standing .year) (standing .place))) (stands-on .counted)
 
     first-shown : firstIn (shownOn c last i) ≡ c .first i
-    unfolding recordOf recordAt
-    first-shown = ap firstIn shown-on ∙ ap (c .first) (stands-on .counted)
+    first-shown = ap firstIn shown-on
 
     length-shown : lengthIn (shownOn c last i) ≡ lengthOf c i
-    unfolding recordOf recordAt
-    length-shown = ap lengthIn shown-on ∙ ap (lengthOf c) (stands-on .counted)
+    length-shown = ap lengthIn shown-on
 
     -- so the days that lie in it are those of the month
     lies-month : (d : ℕ) → LiesIn (shownOn c last i) d → InMonth c i d
@@ -128,10 +119,10 @@ module _ (c : Calendar) (ok : Lawful c) {last earliest latest beyond : ℕ} (end
         }
 
     -- which is what is found
-    found-on : shownOn c last (monthOf c d) ≡ recordSaid (monthOfDay c d)
-    found-on = shown-on (monthOf c d) month-before ∙ found-as c ok d
+    found-on : shownOn c last (monthOf c d) ≡ recordOfMonth (monthOfDay c d)
+    found-on = shown-on (monthOf c d) month-before ∙ ap recordOfMonth (sym (month-of-day c d))
 
-    pub one-found : JustOne (λ (i : ℕ). (i < beyond) × (shownOn c last i ≡ recordSaid (monthOfDay c d)))
+    pub one-found : JustOne (λ (i : ℕ). (i < beyond) × (shownOn c last i ≡ recordOfMonth (monthOfDay c d)))
     one-found =
         record {
           it = monthOf c d;
@@ -144,8 +135,7 @@ module _ (c : Calendar) (ok : Lawful c) {last earliest latest beyond : ℕ} (end
 
     -- and its name runs on from that of its month's first day
     pub named-within : sixtyName d ≡ (sixtyName (monthOfDay c d .first) + (monthOfDay c d .day - 1)) % 60
-    unfolding monthOfDay placed
-    named-within = omega (arith, month-held)
+    named-within = rw (month-of-day c d) (omega (arith, month-held))
 
   -- and no other day lies in one
   module _ (d i : ℕ) (h : i < beyond) (x : LiesIn (shownOn c last i) d) where
@@ -156,9 +146,10 @@ module _ (c : Calendar) (ok : Lawful c) {last earliest latest beyond : ℕ} (end
     is-month : i ≡ monthOf c d
     is-month = month-of c ok d i (lies-month i h d x)
 
-    pub lies-found : shownOn c last i ≡ recordSaid (monthOfDay c d)
+    pub lies-found : shownOn c last i ≡ recordOfMonth (monthOfDay c d)
     lies-found = ap (shownOn c last) is-month ∙ found-on d day-between
 
     pub lies-stands : StandsOn c last i (record { year = monthOfDay c d .year; place = monthOfDay c d .place })
-    unfolding monthOfDay placed
-    lies-stands = subst (λ (l : ℕ). StandsOn c last i (record { year = yearOf c l; place = l - head c (yearOf c l) })) is-month (stands-on i h)
+    lies-stands =
+        rw (month-of-day c d)
+        (subst (λ (l : ℕ). StandsOn c last i (record { year = yearOf c l; place = l - head c (yearOf c l) })) is-month (stands-on i h))

@@ -2,20 +2,21 @@
 -- Assumes nothing.
 use mathlib.Core.List.{List, _++_}
 use mathlib.Core.Logic.{⊎-elim}
-use mathlib.Core.Path.{_≡_, refl, ap, subst, _∙_}
+use mathlib.Core.Path.{_≡_, ap, subst, _∙_}
 use Prim.Native.Nat.{ℕ, zero, suc, _+_, _*_, _≤_, _<_}
+use native.Mathlib.Numerals.{add-one}
 use native.Mathlib.Omega.{arith}
 use lib.ListN.{length, drop, length-drop}
-use lib.Seq.{drop-append-le, drop-append-add, take-append-le}
+use lib.Seq.{drop-append-le, drop-append-add, take-append-le, take-length}
 use Rattle.rows.proofs.Choice.{lt-or-ge}
 use Rattle.month_law.specs.Calendar.{Calendar, head, monthsIn}
 use Rattle.month_law.specs.Lawful.{Lawful}
 use Rattle.month_law.proofs.Rising.{rises-weakly}
 use Rattle.month_law.proofs.Months.{head-rises}
 use Rattle.lists.specs.Records.{recordWidth, recordAt, recordsOf}
-use Rattle.lists.proofs.RecordLaws.{length-records}
+use Rattle.lists.proofs.RecordLaws.{record-width, records-more, length-records}
 use Rattle.lists.specs.Lists.{runOf, monthsInRun}
-use Rattle.lists.proofs.RunLaws.{length-run, run-ends}
+use Rattle.lists.proofs.RunLaws.{run-more, length-run, run-ends}
 use Rattle.demand.specs.Demand.{recordOn}
 
 -- the records of two lists laid end to end are those of the first and then those of the second
@@ -35,15 +36,15 @@ module _ (before after : List ℕ) (k : ℕ) (counted : length before ≡ record
 
 module _ (c : Calendar) where
   on-itself : (n p : ℕ) → recordOn (recordAt c n p) 0 ≡ recordAt c n p
-  unfolding recordOn recordAt
-  on-itself n p = refl
+  unfolding recordOn
+  on-itself n p = rw (← record-width c n p) (take-length (recordAt c n p))
 
   -- the records of a year's list
   on-year : (n k p : ℕ) → p < k → recordOn (recordsOf c n k) p ≡ recordAt c n p
-  unfolding recordsOf
   on-year n zero p h = absurd (omega arith)
   on-year n (suc k) p h =
-      ⊎-elim
+      rw (records-more c n k)
+      (⊎-elim
       (λ (l : p < k). on-before (recordsOf c n k) (recordAt c n k) k (length-records c n k) p l ∙ on-year n k p l)
       (λ (l : k ≤ p).
       let last : p ≡ k + 0 = omega arith in
@@ -52,7 +53,7 @@ module _ (c : Calendar) where
       ∙ on-after (recordsOf c n k) (recordAt c n k) k (length-records c n k) 0
       ∙ on-itself n k
       ∙ ap (recordAt c n) same)
-      (lt-or-ge p k)
+      (lt-or-ge p k))
 
 module _ (c : Calendar) (ok : Lawful c) where
   -- the months of a year of a run come before those of a later one
@@ -67,10 +68,10 @@ module _ (c : Calendar) (ok : Lawful c) where
 
   -- the records of a run: those of its year n + j come after the months of the years before
   pub on-run : (n k j p : ℕ) → j < k → p < monthsIn c (n + j) → recordOn (runOf c n k) (monthsInRun c n j + p) ≡ recordAt c (n + j) p
-  unfolding runOf
   on-run n zero j p h l = absurd (omega arith)
   on-run n (suc k) j p h l =
-      ⊎-elim
+      rw (← add-one k, run-more c n k)
+      (⊎-elim
       (λ (g : j < k).
       on-before (runOf c n k) (recordsOf c (n + k) (monthsIn c (n + k))) (monthsInRun c n k) (length-run c n k) (monthsInRun c n j + p)
       (run-rises n j k p g l)
@@ -80,4 +81,4 @@ module _ (c : Calendar) (ok : Lawful c) where
       rw same
       (on-after (runOf c n k) (recordsOf c (n + k) (monthsIn c (n + k))) (monthsInRun c n k) (length-run c n k) p
       ∙ on-year c (n + k) (monthsIn c (n + k)) p (subst (λ (m : ℕ). p < monthsIn c (n + m)) same l)))
-      (lt-or-ge j k)
+      (lt-or-ge j k))

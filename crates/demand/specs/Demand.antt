@@ -55,8 +55,8 @@ pub record StandsOn (c : Calendar) (last i : ℕ) (s : Standing) : Type 0 where
   pub counted : head c (s .year) + s .place ≡ i
 
 -- what is replied about a day's month, as the record of a listing
-abbrev pub recordSaid : MonthOfDay → List ℕ
-recordSaid m = m .first ∷ m .length ∷ numberIn (m .kind) ∷ markIn (m .kind) ∷ []
+abbrev pub recordOfMonth : MonthOfDay → List ℕ
+recordOfMonth m = m .first ∷ m .length ∷ numberIn (m .kind) ∷ markIn (m .kind) ∷ []
 
 -- the name after name k: the sixty are counted from 0, and the last is followed by the first
 unfoldable pub nextName : ℕ → ℕ
@@ -113,13 +113,13 @@ module _ (e : Epoch) where
     pub not-found : (d : ℕ) (m : MonthOfDay) → dayReply e d ≡ answer m → (earliest ≤ d) × (d ≤ latest)
     -- the record in which the day lies is what is replied
     pub shown : (d i : ℕ) (m : MonthOfDay) → dayReply e d ≡ answer m → i < beyond → LiesIn (shownOn c last i) d
-        → shownOn c last i ≡ recordSaid m
+        → shownOn c last i ≡ recordOfMonth m
     -- it stands at the year and the place that are replied
     pub shown-at : (d i : ℕ) (m : MonthOfDay) → dayReply e d ≡ answer m → i < beyond → LiesIn (shownOn c last i) d
         → StandsOn c last i (record { year = m .year; place = m .place })
     -- and on no other place is that record shown
     pub shown-once : (d : ℕ) (m : MonthOfDay) → dayReply e d ≡ answer m
-        → JustOne (λ (i : ℕ). (i < beyond) × (shownOn c last i ≡ recordSaid m))
+        → JustOne (λ (i : ℕ). (i < beyond) × (shownOn c last i ≡ recordOfMonth m))
     -- the sixty-name of every day is that of the running count
     pub day-names : (d : ℕ) → sixtyName d ≡ runningName d
     -- so is that of the first day in every record of the listing

@@ -11,7 +11,7 @@ use denote.Ref.{now}
 use denote.Triple.Clauses.{AtExit}
 use lib.ListN.{take}
 use Rattle.rows.proofs.Determined.{OneReply, OneOutcome}
-use Rattle.desk.specs.Input.{Left, Told}
+use Rattle.desk.specs.Input.{Left, AskedBy}
 use Rattle.desk.specs.declared.Turn.{Turn}
 use Rattle.desk.specs.declared.Turn.the-variants.{Begun, Ended, CutShort}
 use Rattle.desk.specs.declared.Asked.{Asked}
@@ -92,7 +92,7 @@ OneAsked (Line m) Nothing = ⊥
 OneAsked Nothing (Line n) = ⊥
 OneAsked Nothing Nothing = Unit {0}
 
-one-asked : (x y : Asked) (count room : ℕ) → Told x count room → Told y count room → OneAsked x y
+one-asked : (x y : Asked) (count room : ℕ) → AskedBy x count room → AskedBy y count room → OneAsked x y
 one-asked (Line m) (Line n) count room p q = tt
 one-asked (Line m) Nothing count room p q = omega arith
 one-asked Nothing (Line n) count room p q = omega arith

@@ -55,6 +55,6 @@ withArgument (pos e) from got room = if e =? 0 then from + got else room
 withArgument (negsuc e) from got room = room
 
 -- what so many arguments ask, the program's own name among them: nothing exactly where there is no other
-abbrev pub Told : Asked → ℕ → ℕ → Type 0
-Told (Line n) count room = (1 < count) × (n ≤ room)
-Told Nothing count room = count ≤ 1
+abbrev pub AskedBy : Asked → ℕ → ℕ → Type 0
+AskedBy (Line n) count room = (1 < count) × (n ≤ room)
+AskedBy Nothing count room = count ≤ 1

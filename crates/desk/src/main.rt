@@ -16,7 +16,7 @@ ghost use Rattle.reads.specs.Given.{Within};
 ghost use Rattle.questions.specs.Question.{longest};
 ghost use Rattle.replies.specs.ListText.{yearsRoom};
 ghost use Rattle.replies.specs.AnswerText.{answerText};
-ghost use Rattle.desk.specs.Input.{withMore, lastText, Left, withBlank, withArgument, Begins, Told};
+ghost use Rattle.desk.specs.Input.{withMore, lastText, Left, withBlank, withArgument, Begins, AskedBy};
 
 // How a turn ends: with so many bytes kept of a line that was begun, at the input's end, or by a failed write.
 enum Turn {
@@ -117,7 +117,7 @@ fn answer_read(block: &[u8], line: &mut [u8], kept: usize, buf: &mut [u8]) -> Tu
 }
 
 // Reads once.
-fn fill(block: &mut [u8]) -> Got
+fn read_block(block: &mut [u8]) -> Got
     ensures { λ r. ⌜ Within r (length (now (block .entry))) ⌝ }
 {
     let answered = libc::read(STDIN_FILENO, block);
@@ -133,7 +133,7 @@ fn answer_lines(line: &mut [u8], buf: &mut [u8])
     let mut kept: usize = 0;
     let mut turns = u64::MAX;
     while turns > 0 {
-        let Got::Bytes(read) = fill(&mut block) else {
+        let Got::Bytes(read) = read_block(&mut block) else {
             io::write_all(
                 STDERR_FILENO,
                 b"desk: the input could not be read to its end\n",
@@ -190,7 +190,7 @@ enum Asked {
 
 // The arguments as one line. The first is the program's own name.
 fn join_arguments(line: &mut [u8], count: usize) -> Asked
-    ensures { λ r. ⌜ Told r count (length (now (line .entry))) ⌝ }
+    ensures { λ r. ⌜ AskedBy r count (length (now (line .entry))) ⌝ }
 {
     let mut n: usize = 0;
     let mut i: usize = 1;

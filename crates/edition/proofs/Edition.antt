@@ -1,27 +1,26 @@
 -- The calendar of an epoch is lawful, where lunation 0 is the month of the first solstice and no correction takes a time below 0; so
 -- is that of the Shoushi, whose ends are computed.
 -- Assumes nothing.
-use mathlib.Core.Path.{_≡_, refl, sym}
-use Prim.Native.Nat.{ℕ, suc, _+_, _*_, _≤_, _<_}
+use mathlib.Core.Path.{_≡_, sym, ap}
+use Prim.Native.Nat.{ℕ, suc, _+_, _*_, _/_, _%_, _≤_, _<_}
 use native.Mathlib.Omega.{arith}
 use Rattle.measure.specs.Units.{termStep, lastYear}
 use Rattle.measure.specs.Epoch.{Epoch, shoushi, meanStart}
 use Rattle.measure.specs.Days.{dayOf}
-use Rattle.inequalities.specs.Law.{taken, law, exact}
-use Rattle.inequalities.specs.Solar.{fastAt, slowAt, solar}
-use Rattle.inequalities.specs.Lunar.{lunarMagnitude, lunar}
-use Rattle.inequalities.specs.Motion.{wholeLaw, motionAt, motionInRow, rowOf, motion}
-use Rattle.seasons.specs.Solstice.{solstice}
-use Rattle.seasons.specs.Terms.{term}
-use Rattle.moons.specs.Lunation.{mean, solarTime, anomaly}
-use Rattle.moons.specs.TrueMoon.{corrected, correction, correctionOf, moved, trueMoon}
+use Rattle.seasons.proofs.TermLaws.{term-is}
 use Rattle.moons.proofs.Corrected.{correctionSize}
+use Rattle.moons.proofs.Figures.{true-moons}
 use Rattle.month_law.specs.Calendar.{head}
 use Rattle.month_law.specs.Lawful.{Lawful}
 use Rattle.month_law.proofs.Months.{head-unique}
 use Rattle.month_law.proofs.Demand.{Ends}
 use Rattle.edition.specs.Edition.{middleDay, calendar, firstDay}
 use Rattle.edition.proofs.MonthLength.{lunation-length}
+
+-- two term steps from each middle term to the next, also from year to year
+pub middle-day : (e : Epoch) (j : ℕ) → middleDay e j ≡ dayOf (e .solstice + j * (2 * termStep))
+unfolding middleDay
+middle-day e j = omega (arith, term-is e (j / 12) (2 * (j % 12)))
 
 -- the days that the Shoushi's lists begin with and end before, computed
 pub record Figures : Type 0 where
@@ -33,9 +32,16 @@ pub record Figures : Type 0 where
   pub solstice-1000 : calendar shoushi .mid 12_000 ≡ 365_297
 
 pub figures : Figures
-unfolding firstDay trueMoon moved mean correctionOf correction corrected solar solarTime fastAt slowAt lunar anomaly lunarMagnitude motion motionInRow rowOf motionAt wholeLaw exact law taken middleDay term solstice
+unfolding firstDay
 figures =
-    record { first-0 = refl; first-1 = refl; solstice-0 = refl; first-1000 = refl; next-1000 = refl; solstice-1000 = refl }
+    record {
+      first-0 = ap dayOf (true-moons .moon-0);
+      first-1 = ap dayOf (true-moons .moon-1);
+      solstice-0 = middle-day shoushi 0;
+      first-1000 = ap dayOf (true-moons .moon-12368);
+      next-1000 = ap dayOf (true-moons .moon-12369);
+      solstice-1000 = middle-day shoushi 12_000;
+    }
 
 -- where an edition may open
 pub record Opens (e : Epoch) : Type 0 where
@@ -44,11 +50,6 @@ pub record Opens (e : Epoch) : Type 0 where
   -- lunation 0 is the head of year 0: it holds the day of the solstice
   pub opening : calendar e .first 0 ≤ calendar e .mid 0
   pub opened : calendar e .mid 0 < calendar e .first 1
-
--- two term steps from each middle term to the next, also from year to year
-pub middle-day : (e : Epoch) (j : ℕ) → middleDay e j ≡ dayOf (e .solstice + j * (2 * termStep))
-unfolding middleDay term solstice
-middle-day e j = omega arith
 
 pub lawful : (e : Epoch) → Opens e → Lawful (calendar e)
 lawful e o =

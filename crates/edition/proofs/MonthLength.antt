@@ -6,7 +6,7 @@ use Rattle.measure.specs.Units.{day, year, month, anomalisticMonth, anomalyAdva
 use Rattle.measure.specs.Epoch.{Epoch, meanStart}
 use Rattle.measure.specs.Days.{dayOf}
 use Rattle.signed.specs.Signed.{Signed}
-use Rattle.signed.proofs.Sizes.{Within, gap}
+use Rattle.signed.proofs.Sizes.{Within, gap, gap-is}
 use Rattle.moons.specs.Lunation.{mean, solarTime, anomaly}
 use Rattle.moons.specs.TrueMoon.{correction, moved}
 use Rattle.edition.specs.Edition.{firstDay}
@@ -27,8 +27,7 @@ by-step : (t : ℕ) (c c' : Signed)
     → Within correctionSize c'
     → gap c c' ≤ monthDeficit
     → MonthLength (dayOf (moved t c)) (dayOf (moved (t + month) c'))
-unfolding gap
-by-step t c c' h small small' step = omega (arith, moved-is t c, moved-is (t + month) c')
+by-step t c c' h small small' step = omega (arith, moved-is t c, moved-is (t + month) c', gap-is c c')
 
 -- at any solar time and anomaly, for any rule of the year that moves the solar time by no more than a month and a day
 pub month-length : (t s e a : ℕ) → correctionSize ≤ t → s < year → e ≤ mostSolarAdvance → a < anomalisticMonth

@@ -12,7 +12,7 @@ use Rattle.measure.specs.Epoch.{shoushi}
 use Rattle.remainders.specs.Hours.{hourReply, doubleHour, ke}
 use Rattle.remainders.specs.ExtraDays.{none, extraReply, extraDay}
 use Rattle.signed.specs.Signed.{integer}
-use Rattle.inequalities.specs.Law.{law, taken as lawTaken}
+use Rattle.inequalities.specs.Law.{law, taken}
 use Rattle.inequalities.specs.Solar.{fastAt, slowAt, solarAtReply}
 use Rattle.inequalities.specs.Lunar.{lunarMagnitude, lunarAtReply}
 use Rattle.inequalities.specs.Motion.{motionAtReply}
@@ -27,7 +27,7 @@ use Rattle.questions.specs.Question.{alone, withOne, withTwo, solarIn, lunarIn,
 use lib.IntN.{pos, negsuc}
 use Rattle.rows.specs.Reply.{answer, refused}
 use Rattle.months.specs.Kind.{leap}
-use Rattle.texts.specs.Text.{decimalIn, decimal, piece, taken, filled}
+use Rattle.texts.specs.Text.{decimalIn, decimal, piece, numbersTaken, filled}
 use Rattle.replies.specs.LineText.{blankHoles, numberHoles, refusalText, numbersText, daysText, signedText, monthText, momentText}
 use Rattle.replies.specs.ListText.{listText, recordHoles, recordsHoles, recordsText}
 use Rattle.replies.specs.ReplyText.{constantsText, helpText, replyText}
@@ -79,7 +79,7 @@ signed-answered :
     × ("solar-at slow 9371202500" gets signed (answer (negsuc 240_132_543)))
     × ("lunar-at quick 3" gets signed (answer (pos 3)))
     × ("lunar-at tardy 688524590" gets signed (answer (negsuc 542_337_599)))
-unfolding digits value isNumber numberOf indexOf indexAfter endOf partOf restOf numbersOf law lawTaken fastAt slowAt solarAtReply lunarMagnitude lunarAtReply integer same chosen solarIn lunarIn withHalf wordOf afterWord replyTo
+unfolding digits value isNumber numberOf indexOf indexAfter endOf partOf restOf numbersOf law taken fastAt slowAt solarAtReply lunarMagnitude lunarAtReply integer same chosen solarIn lunarIn withHalf wordOf afterWord replyTo
 signed-answered = (refl, refl, refl, refl)
 
 -- by the calendar, where the question is one
@@ -100,7 +100,7 @@ no-question = (refl, refl, refl, refl, refl, refl)
 
 -- a refusal, and what there is none of
 refusal-told : (replyText malformed ≡ bytesOf "refused 5\n") × (replyText (number (refused 2)) ≡ bytesOf "refused 2\n")
-unfolding replyText refusalText filled piece taken decimal decimalIn
+unfolding replyText refusalText filled piece numbersTaken decimal decimalIn
 refusal-told = (refl, refl)
 
 nothing-told : replyText (days (answer none)) ≡ bytesOf "none\n"
@@ -109,55 +109,55 @@ nothing-told = refl
 
 -- numbers
 three-told : replyText (name (record { name = 34; stem = 4; branch = 10 })) ≡ bytesOf "34 4 10\n"
-unfolding replyText numbersText numberHoles blankHoles filled piece taken decimal decimalIn
+unfolding replyText numbersText numberHoles blankHoles filled piece numbersTaken decimal decimalIn
 three-told = refl
 
 behind-told : replyText (signed (answer (negsuc 93_335_813))) ≡ bytesOf "-93335814\n"
-unfolding replyText signedText filled piece taken decimal decimalIn
+unfolding replyText signedText filled piece numbersTaken decimal decimalIn
 behind-told = refl
 
 ahead-told : replyText (signed (answer (pos 109_030_665))) ≡ bytesOf "109030665\n"
-unfolding replyText signedText filled piece taken decimal decimalIn
+unfolding replyText signedText filled piece numbersTaken decimal decimalIn
 ahead-told = refl
 
 -- the first mean new moon
 moment-told : replyText (moment (answer 3_487_500_000)) ≡ bytesOf "3487500000 34 87500000 34\n"
-unfolding replyText momentText filled piece taken decimal decimalIn
+unfolding replyText momentText filled piece numbersTaken decimal decimalIn
 moment-told = refl
 
 -- the leap month of year 0, on its day 340
 month-told : replyText (month (answer (record { kind = leap 8; year = 0; place = 10; day = 12; first = 329; length = 30 }))) ≡ bytesOf "0 10 12 329 30 8 1\n"
-unfolding replyText monthText filled piece taken decimal decimalIn
+unfolding replyText monthText filled piece numbersTaken decimal decimalIn
 month-told = refl
 
 -- records, and a refusal in their place
 records-told : recordsText (35 ∷ 29 ∷ 11 ∷ 0 ∷ 64 ∷ 30 ∷ 12 ∷ 0 ∷ []) ≡ bytesOf "35:29:11:0 64:30:12:0\n"
-unfolding recordsText recordsHoles recordHoles filled piece taken decimal decimalIn
+unfolding recordsText recordsHoles recordHoles filled piece numbersTaken decimal decimalIn
 records-told = refl
 
 late-told : replyText (year (refused 1)) ≡ bytesOf "refused 1\n"
-unfolding replyText refusalText filled piece taken decimal decimalIn
+unfolding replyText refusalText filled piece numbersTaken decimal decimalIn
 late-told = refl
 
 -- the terms of year 5, the months of year 0, and those of years 5 and 6
 terms-told : replyText (termsOf 5)
     ≡ bytesOf "188127250000 189649093750 191170937500 192692781250 194214625000 195736468750 197258312500 198780156250 200302000000 201823843750 203345687500 204867531250 206389375000 207911218750 209433062500 210954906250 212476750000 213998593750 215520437500 217042281250 218564125000 220085968750 221607812500 223129656250\n"
-unfolding replyText listText termsReply termList listed term solstice numbersText numberHoles blankHoles filled piece taken decimal decimalIn
+unfolding replyText listText termsReply termList listed term solstice numbersText numberHoles blankHoles filled piece numbersTaken decimal decimalIn
 terms-told = refl
 
 year-told : replyText (yearOf 0)
     ≡ bytesOf "35:29:11:0 64:30:12:0 94:29:1:0 123:30:2:0 153:29:3:0 182:29:4:0 211:30:5:0 241:29:6:0 270:30:7:0 300:29:8:0 329:30:8:1 359:30:9:0 389:30:10:0\n"
-unfolding list-0 replyText listReply recordsText recordsHoles recordHoles filled piece taken decimal decimalIn
+unfolding list-0 replyText listReply recordsText recordsHoles recordHoles filled piece numbersTaken decimal decimalIn
 year-told = simp (months .lists .3)
 
 years-told : replyText (yearsOf 5 2)
     ≡ bytesOf "1865:29:11:0 1894:30:12:0 1924:30:1:0 1954:30:2:0 1984:29:3:0 2013:30:4:0 2043:29:5:0 2072:30:6:0 2102:29:7:0 2131:30:8:0 2161:29:9:0 2190:29:10:0 2219:30:11:0 2249:29:12:0 2278:30:1:0 2308:30:2:0 2338:29:2:1 2367:30:3:0 2397:30:4:0 2427:29:5:0 2456:30:6:0 2486:29:7:0 2515:30:8:0 2545:29:9:0 2574:30:10:0\n"
-unfolding list-5 list-6 replyText runReply runAsked recordsText recordsHoles recordHoles filled piece taken decimal decimalIn
+unfolding list-5 list-6 replyText runReply runAsked recordsText recordsHoles recordHoles filled piece numbersTaken decimal decimalIn
 years-told = simp (months .runs .6, months .runs .7)
 
 constants-told : replyText constants
     ≡ bytesOf "day=100000000 fen=10000 miao=100 year=36524250000 half-year=18262125000 month=2953059300 quarter=738264825 term=1521843750 pentad=507281250 earth=304368750 anomalistic-month=2755460000 anomalistic-half=1377730000 solstice-epoch=5506000000 leap-epoch=2018500000 anomaly-epoch=1319040000\n"
-unfolding replyText constantsText filled piece taken decimal decimalIn
+unfolding replyText constantsText filled piece numbersTaken decimal decimalIn
 constants-told = refl
 
 help-told : replyText help

@@ -7,6 +7,7 @@ use Prim.Native.Nat.{ℕ}
 use Prim.Native.String.{String}
 use lib.ListN.{take, drop}
 use Rattle.rows.specs.Reply.{answer, refused}
+use Rattle.rows.specs.Row.{over, rowAfter}
 use Rattle.measure.specs.Epoch.{shoushi}
 use Rattle.inequalities.specs.Law.{taken, law, exact}
 use Rattle.inequalities.specs.Solar.{fastAt, slowAt, solar}
@@ -26,15 +27,15 @@ use Rattle.months.specs.Month.{kindAt, placed, monthOfDay, dayReply}
 use Rattle.months.specs.Date.{dayAt, backReply}
 use Rattle.lists.specs.Records.{recordAt, recordsOf}
 use Rattle.lists.specs.Lists.{runOf, monthsInRun, runAsked, listReply, runReply}
-use Rattle.records.specs.MonthRecords.{inRecords, over, rowAfter}
+use Rattle.records.specs.MonthRecords.{inRecords}
 use Rattle.frames.specs.Digits.{digitByte, digitsOf, digitOf, spelled}
 use Rattle.frames.specs.DayLine.{dayAsked}
 use Rattle.frames.specs.MonthLine.{monthLine, fieldsIn, readFields, refusalLine, lineOf}
 use Rattle.lines.specs.Line.{lineReply, replyLine, lastLine, outputFrom, output}
-use Rattle.viewer.specs.Bytes.{lowFirst, bytesOf}
+use Rattle.viewer.specs.Bytes.{lowFirst, lowFirstBytes}
 use Rattle.viewer.specs.Room.{roomIn}
 use Rattle.viewer.specs.Told.{dayTold, countTold}
-use Rattle.words.specs.Ascii.{bytesOf as ascii}
+use Rattle.words.specs.Ascii.{bytesOf}
 
 -- the input 00023, 0003F, 00022, 00g40 and its output
 asked : List ℕ
@@ -50,7 +51,7 @@ told = month-line ++ month-line ++ (0x45 ∷ 0x33 ∷ 0x0A ∷ 0x45 ∷ 0x35 ∷
 -- an input of the line program, and what is written for it
 infix 40 _prints_
 abbrev _prints_ : String → String → Type 0
-input prints written = output shoushi (ascii input) ≡ ascii written
+input prints written = output shoushi (bytesOf input) ≡ bytesOf written
 
 -- year 0's list
 unfoldable pub list-0 : List ℕ
@@ -104,11 +105,11 @@ pub record Months : Type 0 where
   -- the first day and the day before it, and the leap month
   day-lines : ("00022\n00023\n" prints "E3\n000B0000231D\n") × ("00154\n" prints "00081001491E\n")
   -- a month line taken apart: its five fields, and what is none
-  fields : (readFields 5 (ascii "00081001491E") ≡ answer (record { year = 0; number = 8; mark = 1; first = 329; length = 30 }))
-      × (readFields 5 (ascii "3E7A0592B71E") ≡ answer (record { year = 999; number = 10; mark = 0; first = 365_239; length = 30 }))
-      × (readFields 6 (ascii "000810001491E") ≡ answer (record { year = 0; number = 8; mark = 1; first = 329; length = 30 }))
-      × (readFields 5 (ascii "00081001491") ≡ refused 5)
-      × (readFields 5 (ascii "00081001491e") ≡ refused 5)
+  fields : (readFields 5 (bytesOf "00081001491E") ≡ answer (record { year = 0; number = 8; mark = 1; first = 329; length = 30 }))
+      × (readFields 5 (bytesOf "3E7A0592B71E") ≡ answer (record { year = 999; number = 10; mark = 0; first = 365_239; length = 30 }))
+      × (readFields 6 (bytesOf "000810001491E") ≡ answer (record { year = 0; number = 8; mark = 1; first = 329; length = 30 }))
+      × (readFields 5 (bytesOf "00081001491") ≡ refused 5)
+      × (readFields 5 (bytesOf "00081001491e") ≡ refused 5)
   -- the last line may lack its end, and nothing follows a final one
   ends : ("00154" prints "00081001491E\n") × ("00154\n\n" prints "00081001491E\nE5\n") × ("" prints "")
   viewer : (dayTold (dayReply shoushi 340)
@@ -117,10 +118,10 @@ pub record Months : Type 0 where
       ≡ record { first = 0; year = 0; place = 0; day = 0; length = 0; number = 0; leap = 0; refused = 3 })
       × (countTold (listReply shoushi 0 13) ≡ record { refused = 0; records = 13 })
       × (countTold (listReply shoushi 0 12) ≡ record { refused = 4; records = 0 })
-  bytes : (bytesOf (365_239 ∷ 30 ∷ []) ≡ 0xB7 ∷ 0x92 ∷ 0x05 ∷ 0x00 ∷ 0x1E ∷ 0x00 ∷ 0x00 ∷ 0x00 ∷ []) × (roomIn told ≡ 2)
+  bytes : (lowFirstBytes (365_239 ∷ 30 ∷ []) ≡ 0xB7 ∷ 0x92 ∷ 0x05 ∷ 0x00 ∷ 0x1E ∷ 0x00 ∷ 0x00 ∷ 0x00 ∷ []) × (roomIn told ≡ 2)
 
 pub months : Months
-unfolding asked month-line told list-0 list-5 list-6 solstice term taken law exact fastAt slowAt solar solarTime lunarMagnitude lunar anomaly wholeLaw motionAt motionInRow rowOf motion mean corrected correction correctionOf moved trueMoon firstDay seek count numberOfRank monthOf head yearOf held leapAt numberAt middleDay headReply kindAt placed monthOfDay dayAt dayReply backReply recordAt recordsOf inRecords over runOf monthsInRun listReply runAsked runReply digitByte digitsOf digitOf spelled dayAsked monthLine fieldsIn readFields refusalLine lineOf lineReply replyLine lastLine outputFrom output lowFirst bytesOf roomIn
+unfolding asked month-line told list-0 list-5 list-6 solstice term taken law exact fastAt slowAt solar solarTime lunarMagnitude lunar anomaly wholeLaw motionAt motionInRow rowOf motion mean corrected correction correctionOf moved trueMoon firstDay seek count numberOfRank monthOf head yearOf held leapAt numberAt middleDay headReply kindAt placed monthOfDay dayAt dayReply backReply recordAt recordsOf inRecords over runOf monthsInRun listReply runAsked runReply digitByte digitsOf digitOf spelled dayAsked monthLine fieldsIn readFields refusalLine lineOf lineReply replyLine lastLine outputFrom output lowFirst lowFirstBytes roomIn
 months =
     record {
       heads = (refl, refl, refl, refl);

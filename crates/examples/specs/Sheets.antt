@@ -7,7 +7,7 @@ use mathlib.Core.Path.{_≡_, refl}
 use Prim.Native.String.{String}
 use Rattle.rows.specs.Reply.{Reply, answer, refused}
 use Rattle.measure.specs.Epoch.{shoushi}
-use Rattle.inequalities.specs.Law.{taken as lawTaken, law, exact}
+use Rattle.inequalities.specs.Law.{taken, law, exact}
 use Rattle.inequalities.specs.Solar.{fastAt, slowAt, solar}
 use Rattle.inequalities.specs.Lunar.{lunarMagnitude, lunar}
 use Rattle.inequalities.specs.Motion.{wholeLaw, motionAt, motionInRow, rowOf, motion}
@@ -26,7 +26,7 @@ use Rattle.words.specs.Text.{same}
 use Rattle.words.specs.Line.{wordOf, afterWord}
 use Rattle.words.specs.Choice.{chosen}
 use Rattle.words.specs.Numbers.{endOf, partOf, restOf, numbersOf}
-use Rattle.texts.specs.Text.{decimalIn, decimal, piece, taken, filled}
+use Rattle.texts.specs.Text.{decimalIn, decimal, piece, numbersTaken, filled}
 use Rattle.replies.specs.LineText.{blankHoles, numberHoles, refusalText, numbersText}
 use Rattle.sheets.specs.Marks.{marked, shownAt, agrees, agreesAll, passing, badMark, anyBad, sheetReply}
 use Rattle.sheets.specs.declared.Mark.{Mark}
@@ -43,19 +43,19 @@ year-0 :
     × (agreesAll (calendar shoushi) (marked 0 (Length 29) ∷ marked 10 (Stem 9) ∷ marked 10 (Branch 5) ∷ marked 10 Leap ∷ []) 0 ≡ true)
     × (agrees (calendar shoushi) (marked 9 Leap) 0 ≡ false)
     × (agreesAll (calendar shoushi) (marked 0 (Name 35) ∷ marked 0 (Name 36) ∷ []) 0 ≡ false)
-unfolding solstice term lawTaken law exact fastAt slowAt solar solarTime lunarMagnitude lunar anomaly wholeLaw motionAt motionInRow rowOf motion mean corrected correction correctionOf moved trueMoon firstDay seek count monthOf head held leapAt middleDay shownAt agrees agreesAll passing
+unfolding solstice term taken law exact fastAt slowAt solar solarTime lunarMagnitude lunar anomaly wholeLaw motionAt motionInRow rowOf motion mean corrected correction correctionOf moved trueMoon firstDay seek count monthOf head held leapAt middleDay shownAt agrees agreesAll passing
 year-0 = (refl, refl, refl, refl)
 
 -- year 5 has no month at place 12; that of year 6 has 30 days and begins with day 2,574
 place-12 : (agrees (calendar shoushi) (marked 12 (Length 30)) 5 ≡ false) × (agrees (calendar shoushi) (marked 12 (Length 30)) 6 ≡ true)
     × (agrees (calendar shoushi) (marked 12 (Name 54)) 6 ≡ true)
-unfolding solstice term lawTaken law exact fastAt slowAt solar solarTime lunarMagnitude lunar anomaly wholeLaw motionAt motionInRow rowOf motion mean corrected correction correctionOf moved trueMoon firstDay seek count monthOf head held leapAt middleDay shownAt agrees agreesAll passing
+unfolding solstice term taken law exact fastAt slowAt solar solarTime lunarMagnitude lunar anomaly wholeLaw motionAt motionInRow rowOf motion mean corrected correction correctionOf moved trueMoon firstDay seek count monthOf head held leapAt middleDay shownAt agrees agreesAll passing
 place-12 = (refl, refl, refl)
 
 -- of the first seven years: those with a leap month at place 4, and all, where nothing is marked
 first-years : (passing (agreesAll (calendar shoushi) (marked 4 Leap ∷ [])) 7 ≡ 6 ∷ [])
     × (passing (agreesAll (calendar shoushi) []) 7 ≡ 0 ∷ 1 ∷ 2 ∷ 3 ∷ 4 ∷ 5 ∷ 6 ∷ [])
-unfolding solstice term lawTaken law exact fastAt slowAt solar solarTime lunarMagnitude lunar anomaly wholeLaw motionAt motionInRow rowOf motion mean corrected correction correctionOf moved trueMoon firstDay seek count monthOf head held leapAt middleDay shownAt agrees agreesAll passing
+unfolding solstice term taken law exact fastAt slowAt solar solarTime lunarMagnitude lunar anomaly wholeLaw motionAt motionInRow rowOf motion mean corrected correction correctionOf moved trueMoon firstDay seek count monthOf head held leapAt middleDay shownAt agrees agreesAll passing
 first-years = (refl, refl)
 
 infix 40 _gives_
@@ -82,9 +82,9 @@ line says reply = answerText shoushi (bytesOf line) ≡ bytesOf reply
 -- a mark that no month has, and a line that is no marks, which is told first
 refusals : ("sheet name 0 60" says "refused 2\n") × ("sheet leap 10 length 0 31" says "refused 2\n") × ("sheet leap 13 leap" says "refused 5\n")
     × ("sheets" says "refused 5\n")
-unfolding indexOf indexAfter digits value isNumber numberOf endOf partOf restOf same chosen showing markOf afterMark marksWithin marksIn numbersOf wordOf afterWord badMark anyBad sheetReply listText refusalText numbersText numberHoles blankHoles filled piece taken decimal decimalIn answerText replyTo replyText alone
+unfolding indexOf indexAfter digits value isNumber numberOf endOf partOf restOf same chosen showing markOf afterMark marksWithin marksIn numbersOf wordOf afterWord badMark anyBad sheetReply listText refusalText numbersText numberHoles blankHoles filled piece numbersTaken decimal decimalIn answerText replyTo replyText alone
 refusals = (refl, refl, refl, refl)
 
 years : (listText (0 ∷ 93 ∷ 310 ∷ []) ≡ bytesOf "0 93 310\n") × (listText (999 ∷ []) ≡ bytesOf "999\n") × (listText [] ≡ bytesOf "none\n")
-unfolding listText numbersText numberHoles blankHoles filled piece taken decimal decimalIn
+unfolding listText numbersText numberHoles blankHoles filled piece numbersTaken decimal decimalIn
 years = (refl, refl, refl)

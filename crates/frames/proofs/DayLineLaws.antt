@@ -8,7 +8,7 @@ use borrow.Author.Tests.{eq-eqb, ne-eqb}
 use lib.ListN.{length}
 use Rattle.rows.specs.Choice.{if_then_else_, _=?_}
 use Rattle.rows.specs.Reply.{answer, refused, badLine}
-use Rattle.frames.specs.Digits.{digitsOf, numberOf}
+use Rattle.frames.specs.Digits.{digitsOf, numberSpelled}
 use Rattle.frames.specs.DayLine.{dayAsked}
 use Rattle.frames.proofs.DigitLaws.{length-digits, number-back, spelled-only}
 
@@ -27,6 +27,6 @@ pub only-bad : (w : ℕ) (line : List ℕ) (k : ℕ) → dayAsked w line ≡ ref
 unfolding dayAsked
 only-bad w line k h = only (length line =? w) h
   where
-    only : (t : Bool) → (if t then numberOf line else refused badLine) ≡ refused k → k ≡ badLine
+    only : (t : Bool) → (if t then numberSpelled line else refused badLine) ≡ refused k → k ≡ badLine
     only true f = spelled-only 0 k line f
     only false f = cc

@@ -13,7 +13,7 @@ use lib.ListN.{length, length-append}
 use Rattle.rows.specs.Choice.{if_then_else_, _=?_}
 use Rattle.rows.specs.Reply.{Reply, answer, refused, badLine}
 use Rattle.months.specs.Month.{MonthOfDay}
-use Rattle.frames.specs.Digits.{digitsOf, spelled, numberOf}
+use Rattle.frames.specs.Digits.{digitsOf, spelled, numberSpelled}
 use Rattle.frames.specs.MonthLine.{Fields, shown, monthLine, monthDigits, fieldsIn, fieldsOf, readFields, Fits, refusalLine, lineOf}
 use Rattle.frames.proofs.DigitLaws.{length-digits, spelled-append, digits-read, number-back, digits-split, digits-last, digits-back}
 
@@ -39,12 +39,12 @@ unfolding lineOf
 refusal-line-length w k = simp length-append (omega (arith, refusal-length k))
 
 -- one field more
-read-on : (xs : List ℕ) (m w n : ℕ) → numberOf xs ≡ answer m → n < 16 ^ w → numberOf (xs ++ digitsOf w n) ≡ answer (m * 16 ^ w + n)
+read-on : (xs : List ℕ) (m w n : ℕ) → numberSpelled xs ≡ answer m → n < 16 ^ w → numberSpelled (xs ++ digitsOf w n) ≡ answer (m * 16 ^ w + n)
 read-on xs m w n e h =
     spelled-append (answer 0) xs (digitsOf w n) ∙ ap (λ (r : Reply ℕ). spelled r (digitsOf w n)) e ∙ digits-read w n m h
 
 -- a line of fields that have room in it spells that number
-pub line-number : (w : ℕ) (f : Fields) → Fits w f → numberOf (monthLine w f) ≡ answer (packed (16 ^ w) f)
+pub line-number : (w : ℕ) (f : Fields) → Fits w f → numberSpelled (monthLine w f) ≡ answer (packed (16 ^ w) f)
 unfolding monthLine
 line-number w f fits =
     read-on _ _ 2 (f .length)
@@ -121,23 +121,23 @@ number-line w n =
 pub record ReadAs (w : ℕ) (line : List ℕ) (f : Fields) : Type 0 where
   pub number : ℕ
   pub sized : length line ≡ monthDigits w
-  pub spells : numberOf line ≡ answer number
+  pub spells : numberSpelled line ≡ answer number
   pub fields : f ≡ fieldsIn (16 ^ w) number
 
 pub read-as : (w : ℕ) (line : List ℕ) (f : Fields) → readFields w line ≡ answer f → ReadAs w line f
 unfolding readFields
 read-as w line f e = sized (length line =? monthDigits w) refl e
   where
-    spells : length line ≡ monthDigits w → (r : Reply ℕ) → numberOf line ≡ r → fieldsOf (16 ^ w) r ≡ answer f → ReadAs w line f
+    spells : length line ≡ monthDigits w → (r : Reply ℕ) → numberSpelled line ≡ r → fieldsOf (16 ^ w) r ≡ answer f → ReadAs w line f
     spells h (answer n) g d = record { number = n; sized = h; spells = g; fields = cc }
     spells h (refused k) g d = let z : _≡_ {A = ℕ} 0 1 = cc in absurd (never z)
       where
         never : _≡_ {A = ℕ} 0 1 → ⊥
         never z = omega arith
 
-    sized : (t : Bool) → (length line =? monthDigits w) ≡ t → (if t then fieldsOf (16 ^ w) (numberOf line) else refused badLine) ≡ answer f
+    sized : (t : Bool) → (length line =? monthDigits w) ≡ t → (if t then fieldsOf (16 ^ w) (numberSpelled line) else refused badLine) ≡ answer f
         → ReadAs w line f
-    sized true t g = spells (eqb-true (length line) (monthDigits w) t) (numberOf line) refl g
+    sized true t g = spells (eqb-true (length line) (monthDigits w) t) (numberSpelled line) refl g
     sized false t g = let z : _≡_ {A = ℕ} 0 1 = cc in absurd (never z)
       where
         never : _≡_ {A = ℕ} 0 1 → ⊥

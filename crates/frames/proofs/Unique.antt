@@ -12,10 +12,10 @@ use Rattle.frames.proofs.rest.Kinds as rest
 use Rattle.frames.proofs.rest.Reads as rest-reads
 use Rattle.frames.proofs.day_asked.Kinds as day-asked
 use Rattle.frames.proofs.day_asked.Reads as day-asked-reads
-use Rattle.frames.proofs.put_month.Kinds as put-month
-use Rattle.frames.proofs.put_month.Reads as put-month-reads
-use Rattle.frames.proofs.put_refusal.Kinds as put-refusal
-use Rattle.frames.proofs.put_refusal.Reads as put-refusal-reads
+use Rattle.frames.proofs.put_month_line.Kinds as put-month-line
+use Rattle.frames.proofs.put_month_line.Reads as put-month-line-reads
+use Rattle.frames.proofs.put_refusal_line.Kinds as put-refusal-line
+use Rattle.frames.proofs.put_refusal_line.Reads as put-refusal-line-reads
 
 pub line-len-unique : OneReply line-len.ps line-len.r line-len-reads.Post
 line-len-unique κs a x y s t p q = p ∙ sym q
@@ -29,8 +29,8 @@ rest-unique κs a x y s t p q = p ∙ sym q
 pub day-asked-unique : OneReply day-asked.ps day-asked.r day-asked-reads.Post
 day-asked-unique κs a x y s t p q = one-answer x y _ p q
 
-pub put-month-unique : OneOutcome put-month.ps put-month.r put-month-reads.Post (λ κs s. now (s .1 .1 .0))
-put-month-unique κs a x y s t p q = (p .0 ∙ sym (q .0), p .1 ∙ sym (q .1))
+pub put-month-line-unique : OneOutcome put-month-line.ps put-month-line.r put-month-line-reads.Post (λ κs s. now (s .1 .1 .0))
+put-month-line-unique κs a x y s t p q = (p .0 ∙ sym (q .0), p .1 ∙ sym (q .1))
 
-pub put-refusal-unique : OneOutcome put-refusal.ps put-refusal.r put-refusal-reads.Post (λ κs s. now (s .1 .0))
-put-refusal-unique κs a x y s t p q = (p .0 ∙ sym (q .0), p .1 ∙ sym (q .1))
+pub put-refusal-line-unique : OneOutcome put-refusal-line.ps put-refusal-line.r put-refusal-line-reads.Post (λ κs s. now (s .1 .0))
+put-refusal-line-unique κs a x y s t p q = (p .0 ∙ sym (q .0), p .1 ∙ sym (q .1))

@@ -43,5 +43,5 @@ spelled before [] = before
 spelled before (b ∷ bs) = spelled (withDigit before (digitOf b)) bs
 
 -- the number of digits, high first; refused where a byte is none
-abbrev pub numberOf : List ℕ → Reply ℕ
-numberOf digits = spelled (answer 0) digits
+abbrev pub numberSpelled : List ℕ → Reply ℕ
+numberSpelled digits = spelled (answer 0) digits

@@ -8,7 +8,7 @@ use Rattle.rows.specs.Reply.{Reply, answer, refused, badLine}
 use Rattle.months.specs.Kind.{numberIn, markIn}
 use Rattle.months.specs.Month.{MonthOfDay}
 use Rattle.frames.specs.LineEnds.{lineEnd}
-use Rattle.frames.specs.Digits.{digitsOf, numberOf}
+use Rattle.frames.specs.Digits.{digitsOf, numberSpelled}
 
 -- what a line shows of a month; the leap mark is 1 for leap, else 0
 pub record Fields : Type 0 where
@@ -62,7 +62,7 @@ fieldsOf p (refused k) = refused k
 
 -- what a line reads to: the right number of digits, and nothing else
 unfoldable pub readFields : ℕ → List ℕ → Reply Fields
-readFields w line = if length line =? monthDigits w then fieldsOf (16 ^ w) (numberOf line) else refused badLine
+readFields w line = if length line =? monthDigits w then fieldsOf (16 ^ w) (numberSpelled line) else refused badLine
 
 -- a refusal is E and its number
 unfoldable pub refusalLine : ℕ → List ℕ

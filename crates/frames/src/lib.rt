@@ -13,7 +13,7 @@ ghost use Rattle.rows.specs.Reply.{answerSaid};
 ghost use Rattle.rows.specs.Row.{over};
 ghost use Rattle.months.specs.Month.{monthSaid};
 ghost use Rattle.frames.specs.LineEnds.{lineEnd, lineLength, restAfter};
-ghost use Rattle.frames.specs.Digits.{digitByte, digitsOf, digitOf, digitSaid, numberOf};
+ghost use Rattle.frames.specs.Digits.{digitByte, digitsOf, digitOf, digitSaid, numberSpelled};
 ghost use Rattle.frames.specs.DayLine.{dayDigits, dayAsked};
 ghost use Rattle.frames.specs.MonthLine.{shown, Fits, monthDigits, monthLine, refusalLine};
 
@@ -26,14 +26,7 @@ pub const DAY_DIGITS: usize = 5;
 pub fn line_len(input: &[u8]) -> usize
     ensures { λ r. ⌜ r ≡ lineLength (now (input .entry)) ⌝ }
 {
-    let mut n: usize = 0;
-    while n < input.len() {
-        if input[n] == LINE_END {
-            return n;
-        }
-        n += 1;
-    }
-    n
+    bytes::scan::find(input, 0, input.len(), LINE_END)
 }
 
 // The rest of the input, after a line of n bytes and its line end. It is handed on as it stands.
@@ -54,11 +47,11 @@ pub fn day_asked(line: &[u8]) -> Answer
     if line.len() != DAY_DIGITS {
         return Answer::Refused(BAD_LINE);
     }
-    number_of(line)
+    number_spelled(line)
 }
 
 // A month's line, with w digits for its day; how many bytes it has. Each field has room in its digits, so that no place is lost.
-pub fn put_month(m: Month, w: usize, out: &mut [u8]) -> usize
+pub fn put_month_line(m: Month, w: usize, out: &mut [u8]) -> usize
     requires { ⌜ (monthDigits w + 1 ≤ length (now out)) × Fits w (shown (monthSaid m)) ⌝ }
     ensures { λ r. ⌜ r ≡ monthDigits w + 1 ⌝ }
     ensures { λ _. ⌜ now (out .exit) ≡ over (monthLine w (shown (monthSaid m)) ++ (lineEnd ∷ [])) (now (out .entry)) ⌝ }
@@ -76,7 +69,7 @@ pub fn put_month(m: Month, w: usize, out: &mut [u8]) -> usize
 }
 
 // A refusal's line, whose number is one digit; how many bytes it has.
-pub fn put_refusal(k: u64, out: &mut [u8]) -> usize
+pub fn put_refusal_line(k: u64, out: &mut [u8]) -> usize
     requires { ⌜ (3 ≤ length (now out)) × (k < 16 ^ 1) ⌝ }
     ensures { λ r. ⌜ r ≡ 3 ⌝ }
     ensures { λ _. ⌜ now (out .exit) ≡ over (refusalLine k ++ (lineEnd ∷ [])) (now (out .entry)) ⌝ }
@@ -113,9 +106,9 @@ fn digit_byte(v: u64) -> u8
 }
 
 // The number that digits spell, few enough for 64 bits. A byte that is no digit is refused with 5.
-fn number_of(digits: &[u8]) -> Answer
+fn number_spelled(digits: &[u8]) -> Answer
     requires { ⌜ length (now digits) ≤ 15 ⌝ }
-    ensures { λ r. ⌜ answerSaid r ≡ numberOf (now (digits .entry)) ⌝ }
+    ensures { λ r. ⌜ answerSaid r ≡ numberSpelled (now (digits .entry)) ⌝ }
 {
     let mut n: u64 = 0;
     let mut i: usize = 0;

@@ -13,18 +13,26 @@ use Rattle.inequalities.specs.Evaluation.{reach, Evaluated}
 abbrev pub growth : Law → ℕ → ℕ
 growth c t = c .third * fine * t / day
 
-module _ (c : Law) (t : ℕ) (h : Evaluated c t) where
-  pub growth-le : growth c t ≤ c .third * fine * reach
-  growth-le = omega (arith, product (c .third * fine) t (c .third * fine) (reach * day) (omega arith) (h .2))
+-- in the law's first n days, or limits
+module _ (c : Law) (n t : ℕ) (h : t ≤ n * day) where
+  pub growth-within : growth c t ≤ c .third * fine * n
+  growth-within = omega (arith, product (c .third * fine) t (c .third * fine) (n * day) (omega arith) h)
 
-  pub taken-le : taken c t ≤ c .first * fine
+  pub taken-within : taken c t ≤ (c .second * fine + c .third * fine * n) * n
   unfolding taken
-  taken-le =
+  taken-within =
       omega (
         arith,
-        product (c .second * fine + growth c t) t (c .second * fine + c .third * fine * reach) (reach * day)
-            (omega (arith, growth-le)) (h .2),
+        product (c .second * fine + growth c t) t (c .second * fine + c .third * fine * n) (n * day)
+            (omega (arith, growth-within)) h,
       )
+
+module _ (c : Law) (t : ℕ) (h : Evaluated c t) where
+  pub growth-le : growth c t ≤ c .third * fine * reach
+  growth-le = growth-within c reach t (h .2)
+
+  pub taken-le : taken c t ≤ c .first * fine
+  taken-le = omega (arith, taken-within c reach t (h .2))
 
 module _ (c : Law) (k : ℕ) (h : (c .second + c .third * reach) * reach ≤ c .first) (r : k ≤ reach) where
   pub inner-le : k * (c .second + k * c .third) ≤ c .first
@@ -42,3 +50,6 @@ module _ (c : Law) (k : ℕ) (h : (c .second + c .third * reach) * reach ≤ c .
   pub exact-le : exact c k ≤ reach * c .first
   unfolding exact
   exact-le = omega (arith, product k (c .first) reach (c .first) r (omega arith))
+
+  pub nested-le : k * (c .first - k * (c .second + k * c .third)) ≤ reach * c .first
+  nested-le = omega (arith, nested, exact-le)

@@ -15,7 +15,7 @@ use Rattle.rows.proofs.Choice.{lt-or-ge, passes-or-fails}
 use Rattle.signed.specs.Signed.{Signed, aheadBy, behindBy}
 use Rattle.inequalities.specs.Law.{Law, law}
 use Rattle.inequalities.proofs.LawStep.{Steady, law-rises, law-falls}
-use Rattle.signed.proofs.Sizes.{gap, gap-sym, gap-triangle, gap-behind}
+use Rattle.signed.proofs.Sizes.{gap, gap-is, gap-sym, gap-triangle, gap-behind}
 
 -- f from lo to hi
 pub record Gentle (f : ℕ → Signed) (rate slack lo hi : ℕ) : Type 0 where
@@ -27,7 +27,7 @@ law-gentle c n s = record { step = λ t e t' eq l k. rw (← eq) (either-way t e
   where
     either-way : (t e : ℕ) → t + e ≤ n * day
         → day * gap (aheadBy (law c t)) (aheadBy (law c (t + e))) ≤ c .first * e + day * 2
-    either-way t e h = unfold gap in omega (arith, law-rises c t e, law-falls c n t e s h)
+    either-way t e h = rw gap-is (omega (arith, law-rises c t e, law-falls c n t e s h))
 
 -- on a shorter stretch, and at a greater rate
 pub weaken : {f : ℕ → Signed} {rate slack lo hi : ℕ} (rate' hi' : ℕ)
@@ -120,15 +120,14 @@ pub opposite : (f : ℕ → ℕ) {rate slack lo hi : ℕ}
 opposite f g = record { step = λ t e t' eq l k. rw gap-behind (g .step t e t' eq l k) }
 
 -- around a circle, where f ends as it begins
-module _ {f : ℕ → Signed} {rate slack : ℕ} (circle : ℕ) (g : Gentle f rate slack 0 circle) (closed : gap (f circle) (f 0) ≡ 0) where
+module _ {f : ℕ → Signed} {rate slack : ℕ} (circle : ℕ) (g : Gentle f rate slack 0 circle) (closed : f circle ≡ f 0) where
   past-the-end : (t d t' : ℕ) → t + d ≡ circle → t' ≤ circle → day * gap (f t) (f t') ≤ rate * (d + t') + day * (2 * slack)
   past-the-end t d t' eq h =
       omega (
         arith,
         g .step t d circle eq (omega arith) (omega arith),
-        g .step 0 t' t' (omega arith) (omega arith) h,
+        rw (← closed) at (g .step 0 t' t' (omega arith) (omega arith) h),
         gap-triangle (f t) (f circle) (f t'),
-        gap-triangle (f circle) (f 0) (f t'),
       )
 
   pub around : (t e : ℕ) → t < circle → e ≤ circle → day * gap (f t) (f ((t + e) % circle)) ≤ rate * e + day * (2 * slack)

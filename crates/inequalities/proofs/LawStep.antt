@@ -7,11 +7,9 @@ use native.Mathlib.Omega.{arith}
 use Rattle.measure.specs.Units.{day}
 use Rattle.measure.proofs.Product.{product}
 use Rattle.inequalities.specs.Law.{Law, fine, taken, law}
+use Rattle.inequalities.proofs.Evaluation.{growth, growth-within, taken-within}
 
--- the law's first quotient, and the number that its last two divide
-cube : Law → ℕ → ℕ
-cube c t = c .third * fine * t / day
-
+-- the number that a law's last two quotients divide
 whole : Law → ℕ → ℕ
 whole c t = (c .first * fine - taken c t) * t
 
@@ -27,11 +25,11 @@ law-le c t = omega (arith, law-whole c t, product (c .first * fine - taken c t) 
 -- it rises no faster than its first coefficient says: what is taken never falls
 module _ (c : Law) (t e : ℕ) where
   taken-rises : taken c t ≤ taken c (t + e)
-  unfolding taken cube
+  unfolding taken
   taken-rises =
       omega (
         arith,
-        product (c .second * fine + cube c t) t (c .second * fine + cube c (t + e)) (t + e) (omega arith) (omega arith),
+        product (c .second * fine + growth c t) t (c .second * fine + growth c (t + e)) (t + e) (omega arith) (omega arith),
       )
 
   whole-rises : whole c (t + e) ≤ whole c t + c .first * fine * e
@@ -58,34 +56,20 @@ module _ (c : Law) (n t e : ℕ) (s : Steady c n) (h : t + e ≤ n * day) where
   within : t ≤ n * day
   within = omega arith
 
-  cube-le : cube c (t + e) ≤ c .third * fine * n
-  unfolding cube
-  cube-le = omega (arith, product (c .third * fine) (t + e) (c .third * fine) (n * day) (omega arith) h)
-
-  taken-le : taken c (t + e) ≤ (c .second * fine + c .third * fine * n) * n
-  unfolding taken cube
-  taken-le =
-      omega (
-        arith,
-        product (c .second * fine + cube c (t + e)) (t + e) (c .second * fine + c .third * fine * n) (n * day)
-            (omega (arith, cube-le)) h,
-      )
-
   et : e * t ≤ e * (n * day)
   et = product e t e (n * day) (omega arith) within
 
-  cube-steep : cube c (t + e) * t ≤ cube c t * t + t + c .third * fine * n * e
-  unfolding cube
-  cube-steep =
+  growth-steep : growth c (t + e) * t ≤ growth c t * t + t + c .third * fine * n * e
+  growth-steep =
       omega (
         arith,
-        mul-le-mul-right {m = day * cube c (t + e)} {n = day * cube c t + day + c .third * fine * e} t (omega arith),
+        mul-le-mul-right {m = day * growth c (t + e)} {n = day * growth c t + day + c .third * fine * e} t (omega arith),
         mul-le-mul-left (c .third) et,
       )
 
   taken-steep : day * taken c (t + e) ≤ day * taken c t + day + t + (2 * (c .third * fine) * n + c .second * fine) * e
-  unfolding taken cube
-  taken-steep = omega (arith, cube-steep, mul-le-mul-right e cube-le)
+  unfolding taken
+  taken-steep = omega (arith, growth-steep, mul-le-mul-right e (growth-within c n (t + e) h))
 
   times-steep : taken c (t + e) * t
       ≤ taken c t * t + (n + 1) * t + (2 * (c .third * fine) * n + c .second * fine) * n * e
@@ -106,15 +90,15 @@ module _ (c : Law) (n t e : ℕ) (s : Steady c n) (h : t + e ≤ n * day) where
       omega (
         arith,
         times-steep,
-        mul-le-mul-right e taken-le,
+        mul-le-mul-right e (taken-within c n (t + e) h),
         mul-le-mul-right e (s .gradual),
         mul-le-mul-left (n + 1) within,
         s .lost,
         ap (λ (z : ℕ). z * t)
             (sub-add-cancel {n = c .first * fine} {m = taken c t}
-            (omega (arith, s .under, taken-le, taken-rises c t e))),
+            (omega (arith, s .under, taken-within c n (t + e) h, taken-rises c t e))),
         ap (λ (z : ℕ). z * (t + e))
-            (sub-add-cancel {n = c .first * fine} {m = taken c (t + e)} (omega (arith, s .under, taken-le))),
+            (sub-add-cancel {n = c .first * fine} {m = taken c (t + e)} (omega (arith, s .under, taken-within c n (t + e) h))),
       )
 
   pub law-falls : day * law c t ≤ day * law c (t + e) + c .first * e + day * 2

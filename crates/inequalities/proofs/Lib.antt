@@ -9,4 +9,5 @@ pub mod Gentle
 pub mod SolarStep
 pub mod LunarStep
 pub mod MotionStep
+pub mod Figures
 pub mod Unique

@@ -11,7 +11,7 @@ use Rattle.inequalities.specs.Law.{lawMoon, taken, law}
 use Rattle.inequalities.proofs.LawStep.{Steady}
 use Rattle.inequalities.specs.Limits.{middle, end, limits}
 use Rattle.inequalities.specs.Lunar.{lunarMagnitude, lunar}
-use Rattle.signed.proofs.Sizes.{gap}
+use Rattle.signed.proofs.Sizes.{gap, gap-is}
 use Rattle.inequalities.proofs.Gentle.{Gentle, glue, up-to, before, backwards, later, opposite, law-gentle, around}
 
 -- the law, whose rate is for a limit
@@ -26,8 +26,8 @@ gentle-moon = law-gentle lawMoon middle steady-moon
 
 -- a half, by its limits: the law forwards, then backwards, and 0 past the end
 middle-meets : gap (aheadBy (law lawMoon (middle * day))) (aheadBy (law lawMoon (end * day - middle * day))) ≤ 0
-unfolding gap law taken
-middle-meets = lit≤ tt
+unfolding law taken
+middle-meets = rw gap-is (lit≤ tt)
 
 gentle-limits : Gentle (λ (n : ℕ). aheadBy (lunarMagnitude n)) limitRate (2 + 0 + 2) 0 (limits anomalisticHalf)
 unfolding lunarMagnitude
@@ -59,8 +59,8 @@ lunarSlack = halfSlack + 0 + halfSlack
 halves-meet : gap (aheadBy (lunarMagnitude (limits anomalisticHalf)))
     (behindBy (lunarMagnitude (limits (anomalisticHalf - anomalisticHalf))))
     ≤ 0
-unfolding gap lunarMagnitude law taken
-halves-meet = lit≤ tt
+unfolding lunarMagnitude law taken
+halves-meet = rw gap-is (lit≤ tt)
 
 gentle-lunar : Gentle lunar lunarRate lunarSlack 0 anomalisticMonth
 unfolding lunar
@@ -70,8 +70,8 @@ gentle-lunar =
     (later anomalisticHalf (opposite (λ (a : ℕ). lunarMagnitude (limits a)) gentle-half)) halves-meet
     (λ (a : ℕ). a <? anomalisticHalf) (before anomalisticHalf)
 
-closed : gap (lunar anomalisticMonth) (lunar 0) ≡ 0
-unfolding gap lunar lunarMagnitude law taken
+closed : lunar anomalisticMonth ≡ lunar 0
+unfolding lunar lunarMagnitude law taken
 closed = refl
 
 abbrev pub lunarStepBound : ℕ

@@ -12,28 +12,17 @@ use Rattle.inequalities.specs.Limits.{end, limits, wholeLimit}
 use Rattle.inequalities.specs.Motion.{motionInRow, rows, rowOf, motion}
 use Rattle.inequalities.proofs.MotionRows.{rowOn, fewerRows, moreRows, motionStep, Near, near-fewer, near-more}
 use Rattle.inequalities.proofs.MotionAt.{row-lt, row-quick, row-tardy}
-use Rattle.signed.proofs.Sizes.{gap}
+use Rattle.signed.proofs.Sizes.{gap, gap-is}
 
 -- 24 or 25 rows on
 OnBy : ℕ → ℕ → Type 0
 OnBy r r' = (r' ≡ (r + fewerRows) % rows) ⊎ (r' ≡ (r + moreRows) % rows)
 
--- as far as that, with or without a whole circle
-on-by : (r r' : ℕ) → r' < rows → r + fewerRows ≤ r' → r' ≤ r + moreRows → OnBy r r'
+-- where a row lies that far on, with or without a whole circle
+on-by : (r r' far : ℕ) → r' ≡ far % rows → r + fewerRows ≤ far → far ≤ r + moreRows → OnBy r r'
 unfolding OnBy
-on-by r r' h l k = go (lt-or-ge r' (r + moreRows))
-  where
-    go : (r' < r + moreRows) ⊎ (r + moreRows ≤ r') → (r' ≡ (r + fewerRows) % rows) ⊎ (r' ≡ (r + moreRows) % rows)
-    go (inl s) = inl (omega arith)
-    go (inr s) = inr (omega arith)
-
-on-by-past : (r r' : ℕ) → r' < rows → r + fewerRows ≤ r' + rows → r' + rows ≤ r + moreRows → OnBy r r'
-unfolding OnBy
-on-by-past r r' h l k = go (lt-or-ge (r' + rows) (r + moreRows))
-  where
-    go : (r' + rows < r + moreRows) ⊎ (r + moreRows ≤ r' + rows) → (r' ≡ (r + fewerRows) % rows) ⊎ (r' ≡ (r + moreRows) % rows)
-    go (inl s) = inl (omega arith)
-    go (inr s) = inr (omega arith)
+on-by r r' far at l k =
+    ⊎-elim (λ (s : far < r + moreRows). inl (omega arith)) (λ (s : r + moreRows ≤ far). inr (omega arith)) (lt-or-ge far (r + moreRows))
 
 -- from a time in a half to that of the next lunation, in the same half and in the other one. First in limits: neither an advance
 -- nor a half leaves a rest there
@@ -62,11 +51,11 @@ from-quick : (a : ℕ) → a < anomalisticHalf → (a + anomalyAdvance < anomali
 from-quick a quick (inl stays) =
     let on = same-half a (nextAnomaly a) (omega arith) (omega arith) in
     rw (row-quick a quick, row-quick (nextAnomaly a) (omega arith))
-    (on-by (wholeLimit a) (wholeLimit (nextAnomaly a)) (omega arith) (on .0) (on .1))
+    (on-by _ _ (wholeLimit (nextAnomaly a)) (omega arith) (on .0) (on .1))
 from-quick a quick (inr leaves) =
     let on = other-half a (nextAnomaly a - anomalisticHalf) quick (omega arith) in
     rw (row-quick a quick, row-tardy (nextAnomaly a) (omega arith))
-    (on-by (wholeLimit a) (end + wholeLimit (nextAnomaly a - anomalisticHalf)) (omega arith) (on .0) (on .1))
+    (on-by _ _ (end + wholeLimit (nextAnomaly a - anomalisticHalf)) (omega arith) (on .0) (on .1))
 
 from-tardy : (a : ℕ) → anomalisticHalf ≤ a → a < anomalisticMonth
     → (a + anomalyAdvance < anomalisticMonth) ⊎ (anomalisticMonth ≤ a + anomalyAdvance)
@@ -74,12 +63,11 @@ from-tardy : (a : ℕ) → anomalisticHalf ≤ a → a < anomalisticMonth
 from-tardy a tardy h (inl stays) =
     let on = same-half (a - anomalisticHalf) (nextAnomaly a - anomalisticHalf) (omega arith) (omega arith) in
     rw (row-tardy a tardy, row-tardy (nextAnomaly a) (omega arith))
-    (on-by (end + wholeLimit (a - anomalisticHalf)) (end + wholeLimit (nextAnomaly a - anomalisticHalf))
-    (omega arith) (omega arith) (omega arith))
+    (on-by _ _ (end + wholeLimit (nextAnomaly a - anomalisticHalf)) (omega arith) (omega arith) (omega arith))
 from-tardy a tardy h (inr leaves) =
     let on = other-half (a - anomalisticHalf) (nextAnomaly a) (omega arith) (omega arith) in
     rw (row-tardy a tardy, row-quick (nextAnomaly a) (omega arith))
-    (on-by-past (end + wholeLimit (a - anomalisticHalf)) (wholeLimit (nextAnomaly a)) (omega arith) (omega arith) (omega arith))
+    (on-by _ _ (wholeLimit (nextAnomaly a) + rows) (omega arith) (omega arith) (omega arith))
 
 row-step : (a : ℕ) → a < anomalisticMonth → OnBy (rowOf a) (rowOf (nextAnomaly a))
 row-step a h =
@@ -89,8 +77,7 @@ row-step a h =
 
 -- and so are the motions
 near-gap : (r r' : ℕ) → Near r r' → gap (aheadBy (motionInRow r)) (aheadBy (motionInRow r')) ≤ motionStep
-unfolding gap
-near-gap r r' h = omega arith
+near-gap r r' h = rw gap-is (omega arith)
 
 rows-step : (r r' : ℕ) → r < rows → OnBy r r' → gap (aheadBy (motionInRow r)) (aheadBy (motionInRow r')) ≤ motionStep
 unfolding OnBy

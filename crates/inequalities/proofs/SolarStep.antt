@@ -10,7 +10,7 @@ use Rattle.signed.specs.Signed.{Signed, aheadBy, behindBy}
 use Rattle.inequalities.specs.Law.{lawA, lawB, taken, law}
 use Rattle.inequalities.proofs.LawStep.{Steady}
 use Rattle.inequalities.specs.Solar.{fastLimit, slowLimit, fastAt, slowAt, solar}
-use Rattle.signed.proofs.Sizes.{gap}
+use Rattle.signed.proofs.Sizes.{gap, gap-is}
 use Rattle.inequalities.proofs.Gentle.{Gentle, weaken, glue, up-to, before, backwards, later, opposite, law-gentle, around}
 
 -- the two laws, at the rate of the faster one
@@ -37,8 +37,8 @@ abbrev halfSlack : ℕ
 halfSlack = 2 + solarJoint + 2
 
 slow-meet : gap (aheadBy (law lawB slowLimit)) (aheadBy (law lawA (halfYear - slowLimit))) ≤ solarJoint
-unfolding gap law taken
-slow-meet = lit≤ tt
+unfolding law taken
+slow-meet = rw gap-is (lit≤ tt)
 
 gentle-slow : Gentle (λ (t : ℕ). aheadBy (slowAt t)) solarRate halfSlack 0 halfYear
 unfolding slowAt
@@ -47,8 +47,8 @@ gentle-slow =
     (backwards halfYear halfYear gentle-A) slow-meet (λ (t : ℕ). t ≤? slowLimit) (up-to slowLimit)
 
 fast-meet : gap (aheadBy (law lawA fastLimit)) (aheadBy (law lawB (halfYear - fastLimit))) ≤ solarJoint
-unfolding gap law taken
-fast-meet = lit≤ tt
+unfolding law taken
+fast-meet = rw gap-is (lit≤ tt)
 
 gentle-fast : Gentle (λ (t : ℕ). aheadBy (fastAt t)) solarRate halfSlack 0 halfYear
 unfolding fastAt
@@ -61,8 +61,8 @@ abbrev solarSlack : ℕ
 solarSlack = halfSlack + 0 + halfSlack
 
 halves-meet : gap (behindBy (slowAt halfYear)) (aheadBy (fastAt (halfYear - halfYear))) ≤ 0
-unfolding gap slowAt fastAt law taken
-halves-meet = lit≤ tt
+unfolding slowAt fastAt law taken
+halves-meet = rw gap-is (lit≤ tt)
 
 gentle-solar : Gentle solar solarRate solarSlack 0 year
 unfolding solar
@@ -70,8 +70,8 @@ gentle-solar =
     glue (λ (x : Signed). x) (λ (s : ℕ). behindBy (slowAt s)) (λ (s : ℕ). aheadBy (fastAt (s - halfYear))) halfYear 0
     (opposite slowAt gentle-slow) (later halfYear gentle-fast) halves-meet (λ (s : ℕ). s <? halfYear) (before halfYear)
 
-closed : gap (solar year) (solar 0) ≡ 0
-unfolding gap solar slowAt fastAt law taken
+closed : solar year ≡ solar 0
+unfolding solar slowAt fastAt law taken
 closed = refl
 
 -- The solar time moves by a month. Where a rule of the year shifts it, this leaves room for a whole day

@@ -35,6 +35,6 @@ unfoldable pub fromNearerEnd : ℕ → ℕ → ℕ
 fromNearerEnd n m = if n ≤? m then n else 2 * m - n
 
 -- the half that each case stands for
-abbrev pub lunarHalf : LunarHalfAsked → LunarHalf
-lunarHalf Quick = quick
-lunarHalf Tardy = tardy
+abbrev pub lunarHalfSaid : LunarHalfAsked → LunarHalf
+lunarHalfSaid Quick = quick
+lunarHalfSaid Tardy = tardy

@@ -45,6 +45,6 @@ unfoldable pub solarAtReply : SolarHalf → ℕ → Reply Signed
 solarAtReply h t = refuseIf (halfYear ≤? t) outside (answer (solarAt h t))
 
 -- the half that each case stands for
-abbrev pub solarHalf : SolarHalfAsked → SolarHalf
-solarHalf Fast = fast
-solarHalf Slow = slow
+abbrev pub solarHalfSaid : SolarHalfAsked → SolarHalf
+solarHalfSaid Fast = fast
+solarHalfSaid Slow = slow

@@ -2,7 +2,7 @@
 use measure::over_day;
 ghost use mathlib.Core.Path.{_≡_};
 ghost use Rattle.inequalities.specs.Law.{law};
-ghost use Rattle.inequalities.specs.Evaluation.{lawWith, Evaluated};
+ghost use Rattle.inequalities.specs.Evaluation.{lawSaid, Evaluated};
 
 pub struct Coefficients {
     pub first: u64,
@@ -34,8 +34,8 @@ const FINE: u64 = 10_000;
 
 // A law at a time, or at limits counted in as many parts. The rest is dropped at each quotient.
 pub(crate) fn law_at(c: Coefficients, t: u64) -> u64
-    requires { ⌜ Evaluated (lawWith c) t ⌝ }
-    ensures { λ r. ⌜ r ≡ law (lawWith c) t ⌝ }
+    requires { ⌜ Evaluated (lawSaid c) t ⌝ }
+    ensures { λ r. ⌜ r ≡ law (lawSaid c) t ⌝ }
 {
     let growth = over_day(c.third * FINE, t);
     let taken = over_day(c.second * FINE + growth, t);

@@ -13,12 +13,12 @@ ghost use mathlib.Core.Path.{_≡_};
 ghost use Prim.Native.Nat.{_≤_, _<_};
 ghost use Rattle.measure.specs.Units.{anomalisticMonth, anomalisticHalf};
 ghost use Rattle.signed.specs.Signed.{integer, asInteger, signedSaid};
-ghost use Rattle.inequalities.specs.Limits.{limits, lunarHalf};
+ghost use Rattle.inequalities.specs.Limits.{limits, lunarHalfSaid};
 ghost use Rattle.inequalities.specs.Lunar.{lunarMagnitude, lunar, lunarAtReply};
 
 // The lunar inequality at a time in a half. Half the anomalistic month or more is refused with 2.
 pub fn lunar_at(half: LunarHalf, time: u64) -> SignedAnswer
-    ensures { λ r. ⌜ signedSaid r ≡ asInteger (lunarAtReply (lunarHalf half) time) ⌝ }
+    ensures { λ r. ⌜ signedSaid r ≡ asInteger (lunarAtReply (lunarHalfSaid half) time) ⌝ }
 {
     if ANOMALISTIC_HALF <= time {
         return SignedAnswer::Refused(OUTSIDE);

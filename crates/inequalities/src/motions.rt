@@ -10,12 +10,12 @@ ghost use mathlib.Core.Path.{_≡_};
 ghost use Prim.Native.Nat.{_<_};
 ghost use Rattle.rows.specs.Reply.{answerSaid};
 ghost use Rattle.measure.specs.Units.{anomalisticMonth};
-ghost use Rattle.inequalities.specs.Limits.{lunarHalf};
+ghost use Rattle.inequalities.specs.Limits.{lunarHalfSaid};
 ghost use Rattle.inequalities.specs.Motion.{wholeLaw, rows, motionInRow, motion, motionAtReply};
 
 // The motion in a whole limit of a half. A limit past the last is refused with 2.
 pub fn motion_at(half: LunarHalf, limit: u64) -> Answer
-    ensures { λ r. ⌜ answerSaid r ≡ motionAtReply (lunarHalf half) limit ⌝ }
+    ensures { λ r. ⌜ answerSaid r ≡ motionAtReply (lunarHalfSaid half) limit ⌝ }
 {
     if END <= limit {
         return Answer::Refused(OUTSIDE);

@@ -11,7 +11,7 @@ ghost use mathlib.Core.Path.{_≡_};
 ghost use Prim.Native.Nat.{_≤_, _<_};
 ghost use Rattle.measure.specs.Units.{year, halfYear};
 ghost use Rattle.signed.specs.Signed.{integer, asInteger, signedSaid};
-ghost use Rattle.inequalities.specs.Solar.{fastAt, slowAt, solar, solarAtReply, solarHalf};
+ghost use Rattle.inequalities.specs.Solar.{fastAt, slowAt, solar, solarAtReply, solarHalfSaid};
 
 // Fast is positive, slow negative.
 pub enum SolarHalf {
@@ -21,7 +21,7 @@ pub enum SolarHalf {
 
 // The solar inequality at a time in a half. The half year or more is refused with 2.
 pub fn solar_at(half: SolarHalf, time: u64) -> SignedAnswer
-    ensures { λ r. ⌜ signedSaid r ≡ asInteger (solarAtReply (solarHalf half) time) ⌝ }
+    ensures { λ r. ⌜ signedSaid r ≡ asInteger (solarAtReply (solarHalfSaid half) time) ⌝ }
 {
     if HALF_YEAR <= time {
         return SignedAnswer::Refused(OUTSIDE);

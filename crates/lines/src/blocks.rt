@@ -26,14 +26,14 @@ pub fn answer_block(buf: &mut [u8], have: usize, out: &mut [u8]) -> Block
     ensures { λ _. ⌜ now (buf .exit) ≡ over (keptOf (take have (now (buf .entry)))) (now (buf .entry)) ⌝ }
 {
     let whole = whole_lines(&buf[..have]);
-    let written = answer_lines(&buf[..whole], out);
+    let written = answer_whole_lines(&buf[..whole], out);
     let kept = least(have - whole, ENOUGH);
     shift(buf, whole, kept);
     Block { written, kept }
 }
 
 // The replies to all lines, from the row's start; how many bytes they have.
-pub fn answer_lines(input: &[u8], out: &mut [u8]) -> usize
+pub fn answer_whole_lines(input: &[u8], out: &mut [u8]) -> usize
     requires { ⌜ replyRoom * length (now input) ≤ length (now out) ⌝ }
     ensures { λ r. ⌜ r ≡ length (output shoushi (now (input .entry))) ⌝ }
     ensures { λ _. ⌜ now (out .exit) ≡ over (output shoushi (now (input .entry))) (now (out .entry)) ⌝ }

@@ -4,8 +4,8 @@ pub mod blocks;
 use frames::DAY_DIGITS;
 use frames::day_asked;
 use frames::line_len;
-use frames::put_month;
-use frames::put_refusal;
+use frames::put_month_line;
+use frames::put_refusal_line;
 use frames::rest;
 use months::MonthAnswer;
 use rows::Answer;
@@ -44,7 +44,7 @@ fn write_replies(input: &[u8], out: &mut [u8]) -> usize
     let mut used: usize = 0;
     while 0 < left.len() {
         let n = line_len(left);
-        used += put_reply(&left[..n], &mut out[used..]);
+        used += put_reply_line(&left[..n], &mut out[used..]);
         let after = rest(left, n);
         left = after;
     }
@@ -52,16 +52,16 @@ fn write_replies(input: &[u8], out: &mut [u8]) -> usize
 }
 
 // The reply to one line, at the row's start; how many bytes it has.
-fn put_reply(line: &[u8], out: &mut [u8]) -> usize
+fn put_reply_line(line: &[u8], out: &mut [u8]) -> usize
     requires { ⌜ length (replyLine shoushi (now line)) ≤ length (now out) ⌝ }
     ensures { λ r. ⌜ r ≡ length (replyLine shoushi (now (line .entry))) ⌝ }
     ensures { λ _. ⌜ now (out .exit) ≡ over (replyLine shoushi (now (line .entry))) (now (out .entry)) ⌝ }
 {
     let Answer::Number(day) = day_asked(line) else {
-        return put_refusal(BAD_LINE, out);
+        return put_refusal_line(BAD_LINE, out);
     };
     let MonthAnswer::Month(month) = months::month_of(day) else {
-        return put_refusal(NO_DAY, out);
+        return put_refusal_line(NO_DAY, out);
     };
-    put_month(month, DAY_DIGITS, out)
+    put_month_line(month, DAY_DIGITS, out)
 }

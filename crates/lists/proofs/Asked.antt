@@ -1,31 +1,67 @@
--- What a run's refusals say of its years and of its row, and a year's list as the run of that one year.
+-- The cases of the replies to a list and to a run, what a run's refusals say of its years and of its row, and a year's list as the run of
+-- that one year.
 -- Assumes nothing.
 use mathlib.Core.Logic.{_⊎_, inl, inr}
 use mathlib.Core.Path.{_≡_, _∙_, sym, ap}
 use Prim.Native.Nat.{ℕ, suc, _+_, _-_, _*_, _≤_, _<_}
 use native.Mathlib.Nat.{add-zero, zero-add}
 use native.Mathlib.Omega.{arith}
-use borrow.Author.Tests.{eq-eqb, ne-eqb, lt-ltb, le-ltb}
+use borrow.Author.Tests.{eq-eqb, ne-eqb, lt-ltb, le-ltb, ltb-false}
+use Rattle.rows.specs.Choice.{_<?_, _=?_}
 use Rattle.rows.specs.Reply.{Reply, answer, refused, noYear, shortRow, answerSaid}
 use Rattle.measure.specs.Units.{lastYear}
 use Rattle.measure.specs.Epoch.{Epoch}
 use Rattle.rows.specs.declared.Answer.{Answer}
-use Rattle.rows.proofs.Choice.{lt-or-ge}
+use Rattle.rows.proofs.Choice.{lt-or-ge, refuse-cases}
 use Rattle.month_law.specs.Calendar.{Calendar, monthsIn}
+use Rattle.edition.specs.Edition.{calendar}
 use Rattle.lists.specs.Records.{yearRoom, recordsOf}
 use Rattle.lists.specs.Lists.{runOf, monthsInRun, runAsked, listReply, runReply}
+
+-- what holds of both refusals, and of the answer where the years and the row are admitted, holds of every reply
+module _ (P : Reply ℕ → Type 0) (e : Epoch) (n room : ℕ) (late : P (refused noYear)) (short : P (refused shortRow)) where
+  pub run-cases : (k : ℕ) → (n + k ≤ suc lastYear → yearRoom * k ≤ room → P (answer (monthsInRun (calendar e) n k)))
+      → P (runReply e n k room)
+  unfolding runReply runAsked
+  run-cases k listed =
+      refuse-cases P (k =? 0) noYear _ late λ some.
+      refuse-cases P (lastYear <? n) noYear _ late λ h.
+      refuse-cases P (suc lastYear - n <? k) noYear _ late λ g.
+      refuse-cases P (room <? yearRoom * k) shortRow _ short λ r.
+      listed (omega (arith, ltb-false lastYear n h, ltb-false (suc lastYear - n) k g)) (ltb-false _ _ r)
+
+  pub list-cases : (n ≤ lastYear → yearRoom ≤ room → P (answer (monthsIn (calendar e) n))) → P (listReply e n room)
+  unfolding listReply
+  list-cases listed =
+      refuse-cases P (lastYear <? n) noYear _ late λ h.
+      refuse-cases P (room <? yearRoom) shortRow _ short λ r.
+      listed (ltb-false _ _ h) (ltb-false _ _ r)
+
+-- the three replies to a list
+module _ (e : Epoch) (n room : ℕ) where
+  pub list-late : lastYear < n → listReply e n room ≡ refused noYear
+  unfolding listReply
+  list-late h = rw (lt-ltb lastYear n h)
+
+  pub list-short : n ≤ lastYear → room < yearRoom → listReply e n room ≡ refused shortRow
+  unfolding listReply
+  list-short h g = rw (le-ltb lastYear n h, lt-ltb room yearRoom g)
+
+  pub list-answered : n ≤ lastYear → yearRoom ≤ room → listReply e n room ≡ answer (monthsIn (calendar e) n)
+  unfolding listReply
+  list-answered h g = rw (le-ltb lastYear n h, le-ltb room yearRoom g)
 
 -- what a reply says, once its case is known
 pub said-as : {reply : Reply ℕ} (got known : Answer) → answerSaid got ≡ reply → got ≡ known → answerSaid known ≡ reply
 said-as got known says case = sym (ap answerSaid case) ∙ says
 
 -- a run is refused whatever its answer would be, or it lies in the admitted years and has room
-pub data Outcome (n k room : ℕ) : Type 0 where
+data Outcome (n k room : ℕ) : Type 0 where
   no : (m : ℕ) → ((later : Reply ℕ) → runAsked n k room later ≡ refused m) → Outcome n k room
   yes : ((later : Reply ℕ) → runAsked n k room later ≡ later) → n + k ≤ suc lastYear → yearRoom * k ≤ room → Outcome n k room
 
 module _ (n k room : ℕ) where
-  pub outcome : Outcome n k room
+  outcome : Outcome n k room
   unfolding runAsked
   outcome = some (lt-or-ge 0 k)
     where
@@ -72,6 +108,11 @@ module _ (n k room : ℕ) where
           let never : _≡_ {A = ℕ} 0 1 = cc in
           record { answered = λ later. absurd (omega arith); within = omega arith; fits = omega arith }
       by (yes f within fits) = record { answered = f; within = within; fits = fits }
+
+-- so its reply is the number of them
+pub run-answered : (e : Epoch) (n k room : ℕ) → Admitted n k room → runReply e n k room ≡ answer (monthsInRun (calendar e) n k)
+unfolding runReply
+run-answered e n k room ok = ok .answered _
 
 -- a year's list is the run of that year
 pub reply-of-one : (e : Epoch) (n room : ℕ) → runReply e n 1 room ≡ listReply e n room

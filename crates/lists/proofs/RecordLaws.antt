@@ -18,9 +18,11 @@ use Rattle.month_law.proofs.Lists.{place-listed, listed-place}
 use Rattle.month_law.proofs.Runs.{year-of}
 use Rattle.months.specs.Kind.{Kind, ordinary, leap, numberIn, markIn}
 use Rattle.months.specs.Month.{kindAt}
-use Rattle.months.specs.Span.{LastBefore, kindBy}
+use Rattle.months.specs.Span.{spanOf, LastBefore, kindBy}
+use Rattle.months.specs.declared.Span.{Span}
 use Rattle.lists.specs.Records.{recordWidth, lengthPlace, markPlace, recordAt, recordOf, recordsOf}
 use Rattle.months.proofs.ByTerm.{year-told, year-is, kind-told}
+use Rattle.months.proofs.Spans.{first-is, next-is, last-of-month}
 
 -- the record of a month by its two days and its kind
 abbrev pub recordBy : ℕ → ℕ → Kind → List ℕ
@@ -53,7 +55,7 @@ module _ (c : Calendar) where
 
 -- a row that holds a year's list first
 module _ (c : Calendar) (n : ℕ) where
-  record-width : (p : ℕ) → length (recordAt c n p) ≡ recordWidth
+  pub record-width : (p : ℕ) → length (recordAt c n p) ≡ recordWidth
   unfolding recordAt
   record-width p = refl
 
@@ -118,3 +120,17 @@ module _ (c : Calendar) (ok : Lawful c) where
       ap₂ (λ (m : ℕ) (kind : Kind). recordBy (c .first m) (c .first (suc m)) kind) (sym at) (kind-told c ok l j last)
       ∙ by-kind c n p
       ∙ ap (λ (m : ℕ). recordAt c m (l - head c m)) (year-is c ok l j last)
+
+  -- the four numbers that are found from a month's span
+  pub span-told : (span : Span) (j number mark : ℕ) (kind : Kind) → span ≡ spanOf c (span .lunation) → LastBefore c (span .next) j
+      → kind ≡ kindBy c (span .first) j
+      → number ≡ numberIn kind
+      → mark ≡ markIn kind
+      → span .first ∷ (span .next - span .first) ∷ number ∷ mark ∷ [] ≡ recordOf c (span .lunation)
+  span-told span j number mark kind e last k en em =
+      let l = span .lunation in
+      let first = first-is c span l e in
+      let next = next-is c span l e in
+      (λ i. first i ∷ (next i - first i) ∷ en i ∷ em i ∷ [])
+      ∙ ap (recordBy (c .first l) (c .first (suc l))) (k ∙ ap (λ (f : ℕ). kindBy c f j) first)
+      ∙ record-told l j (last-of-month c span l e j last)

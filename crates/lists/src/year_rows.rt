@@ -41,7 +41,7 @@ pub fn write_year(n: u64, start: Span, row: &mut [u64]) -> Span
     let mut span = start;
     let mut used: usize = 0;
     while span.next <= solstice {
-        put_month(span, &mut row[used..]);
+        put_span(span, &mut row[used..]);
         span = span_after(span);
         used += RECORD_WIDTH;
     }
@@ -61,12 +61,12 @@ fn span_after(span: Span) -> Span
 }
 
 // The month's kind goes by the last middle term before its end.
-fn put_month(span: Span, row: &mut [u64])
+fn put_span(span: Span, row: &mut [u64])
     requires { ⌜ (span ≡ spanOf (calendar shoushi) (span .lunation)) × (span .lunation ≤ lastLunation) × (recordWidth ≤ length (now row)) ⌝ }
     ensures { λ _. ⌜ now (row .exit) ≡ over (recordOf (calendar shoushi) (span .lunation)) (now (row .entry)) ⌝ }
 {
     let kind = kind_by(span.first, last_term(span.next));
-    put_record(
+    put_four(
         span.first,
         span.next - span.first,
         month_number(kind),
@@ -75,7 +75,8 @@ fn put_month(span: Span, row: &mut [u64])
     );
 }
 
-fn put_record(first: u64, days: u64, number: u64, mark: u64, row: &mut [u64])
+// The four numbers of a record, at the row's start.
+fn put_four(first: u64, days: u64, number: u64, mark: u64, row: &mut [u64])
     requires { ⌜ recordWidth ≤ length (now row) ⌝ }
     ensures { λ _. ⌜ now (row .exit) ≡ over (first ∷ days ∷ number ∷ mark ∷ []) (now (row .entry)) ⌝ }
 {

@@ -15,7 +15,7 @@ pub record Passing (test : ℕ → Bool) (k : ℕ) : Type 0 where
   pub below : place < k
   pub passes : test place ≡ true
 
-one-most : (b : Bool) → oneIf b ≤ 1
+pub one-most : (b : Bool) → oneIf b ≤ 1
 one-most true = omega arith
 one-most false = omega arith
 
@@ -78,16 +78,3 @@ module _ (test : ℕ → Bool) where
   unfolding count
   all-fail zero h = refl
   all-fail (suc k) h = omega (arith, all-fail k (λ (q : ℕ) (g : q < k). h q (omega arith)), ap oneIf (h k (omega arith)))
-
-  -- where two places that pass are always one, one at most is counted
-  pub one-counted : (k : ℕ) → ((p q : ℕ) → test p ≡ true → test q ≡ true → p ≡ q) → count test k ≤ 1
-  unfolding count
-  one-counted zero h = omega arith
-  one-counted (suc k) h =
-      ⊎-elim (λ (e : test k ≡ true). omega (arith, all-fail k (others e), ap oneIf e))
-      (λ (e : test k ≡ false). omega (arith, one-counted k h, ap oneIf e))
-      (passes-or-fails (test k))
-    where
-      others : test k ≡ true → (q : ℕ) → q < k → test q ≡ false
-      others e q g =
-          ⊎-elim (λ (f : test q ≡ true). absurd (omega (arith, h q k f e))) (λ (f : test q ≡ false). f) (passes-or-fails (test q))

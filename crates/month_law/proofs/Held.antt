@@ -1,10 +1,9 @@
--- How many of a year's own middle terms a month holds: one at most, and none just where a month of its list holds no middle term at
--- all.
+-- How many of a year's own middle terms a month holds: none just where a month of its list holds no middle term at all.
 -- Assumes nothing.
 use mathlib.Core.Bool.{true, false}
 use mathlib.Core.Logic.{⊎-elim}
 use mathlib.Core.Path.{_≡_, ap, _∙_}
-use Prim.Native.Nat.{ℕ, suc, _+_, _-_, _*_, _≤_}
+use Prim.Native.Nat.{ℕ, suc, _+_, _-_, _*_}
 use native.Mathlib.Nat.{add-sub-of-le}
 use native.Mathlib.Omega.{arith}
 use borrow.Author.Tests.{le-leb, lt-ltb, leb-true, ltb-true}
@@ -12,9 +11,9 @@ use Rattle.rows.specs.Choice.{_≤?_, _<?_}
 use Rattle.rows.proofs.Choice.{passes-or-fails, both-pass, left-passes, right-passes}
 use Rattle.month_law.specs.Calendar.{Calendar, holds, held}
 use Rattle.month_law.specs.Lawful.{Lawful}
-use Rattle.month_law.proofs.Count.{none-passes, all-fail, one-counted}
+use Rattle.month_law.proofs.Count.{none-passes, all-fail}
 use Rattle.month_law.proofs.Months.{Holds, HoldsNone}
-use Rattle.month_law.proofs.Terms.{InList, OfYear, one-at-most, list-holds}
+use Rattle.month_law.proofs.Terms.{InList, OfYear, list-holds}
 
 module _ (c : Calendar) where
   -- the test for a held middle term is right
@@ -41,17 +40,6 @@ module _ (c : Calendar) where
           (passes-or-fails (holds c l j))
 
 module _ (c : Calendar) (ok : Lawful c) where
-  pub held-most : (n l : ℕ) → held c n l ≤ 1
-  unfolding held
-  held-most n l = one-counted (λ i. holds c l (12 * n + i)) 12 same
-    where
-      same : (p q : ℕ) → holds c l (12 * n + p) ≡ true → holds c l (12 * n + q) ≡ true → p ≡ q
-      same p q e f =
-          omega (
-            arith,
-            one-at-most c ok l (12 * n + p) (12 * n + q) (passes-holds c l (12 * n + p) e) (passes-holds c l (12 * n + q) f),
-          )
-
   -- a month of the list that holds none of the year's holds none at all
   pub held-none : (n l : ℕ) → InList c n l → held c n l ≡ 0 → HoldsNone c l
   unfolding held

@@ -7,5 +7,4 @@ pub mod Lists
 pub mod Numbers
 pub mod Runs
 pub mod Days
-pub mod Direct
 pub mod Demand

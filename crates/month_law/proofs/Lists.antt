@@ -8,14 +8,15 @@ use Prim.Native.Nat.{ℕ, zero, suc, _+_, _-_, _*_, _≤_, _<_}
 use native.Mathlib.Nat.{add-zero, add-suc, add-sub-of-le}
 use native.Mathlib.Omega.{arith}
 use borrow.Author.Tests.{eq-eqb, ne-eqb}
-use Rattle.rows.specs.Choice.{_=?_}
-use Rattle.rows.proofs.Choice.{lt-or-ge, passes-or-fails}
+use Rattle.rows.specs.Choice.{if_then_else_, _≤?_, _=?_}
+use Rattle.rows.proofs.Choice.{lt-or-ge, passes-or-fails, if-le}
 use Rattle.month_law.specs.Count.{count}
 use Rattle.month_law.specs.Calendar.{Calendar, head, monthsIn, held, leapAt}
 use Rattle.month_law.specs.Lawful.{Lawful}
 use Rattle.month_law.specs.Demand.{JustOne, EmptyAt}
+use Rattle.month_law.proofs.Rising.{order-back}
 use Rattle.month_law.proofs.Count.{Passing, count-same, count-past, none-passes, one-passes, some-passes}
-use Rattle.month_law.proofs.Months.{months-least, head-holds, head-rises}
+use Rattle.month_law.proofs.Months.{first-rises, months-least, head-holds, head-last, head-rises}
 use Rattle.month_law.proofs.Terms.{InList, lacks, termsBefore, lacks-none, has-term, term-seen, none-seen, terms-next, head-before}
 use Rattle.month_law.proofs.Held.{none-held, held-none}
 
@@ -61,6 +62,16 @@ module _ (c : Calendar) (ok : Lawful c) where
       ⊎-elim (λ (h : monthsIn c n < 13). inl (omega (arith, months-in-least n)))
       (λ (h : 13 ≤ monthsIn c n). inr (omega (arith, months-in-most n)))
       (lt-or-ge (monthsIn c n) 13)
+
+  -- the next head is 13 months on if the month there begins no later than the next solstice, else 12
+  pub next-head : (n : ℕ) → head c (suc n) ≡ head c n + (if c .first (head c n + 13) ≤? c .mid (12 * suc n) then 13 else 12)
+  next-head n =
+      if-le (λ (k : ℕ). head c (suc n) ≡ head c n + k) 13 12 (c .first (head c n + 13)) (c .mid (12 * suc n))
+      (λ g. omega (arith, head-last c ok (suc n) (head c n + 13) g, months-in-most n))
+      (λ g.
+      let short : head c (suc n) < head c n + 13 =
+      order-back (c .first) (first-rises c ok) (head c (suc n)) (head c n + 13) (omega (arith, head-holds c ok (suc n))) in
+      omega (arith, months-in-least n))
 
   -- the list of year n has the months at places 0 .. monthsIn n - 1 from its head
   pub place-listed : (n p : ℕ) → p < monthsIn c n → InList c n (head c n + p)

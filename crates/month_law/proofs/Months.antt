@@ -1,7 +1,7 @@
 -- The months of a calendar: their first days rise, each day lies in one month, which the search finds; each middle term lies in one,
 -- and later ones in later months; so each year has one head, and heads rise.
 -- Assumes nothing.
-use mathlib.Core.Path.{_≡_, ap, sym}
+use mathlib.Core.Path.{_≡_, refl, ap, sym, _∙_}
 use Prim.Native.Nat.{ℕ, zero, suc, _+_, _-_, _*_, _/_, _≤_, _<_}
 use native.Mathlib.Nat.{zero-add, add-zero, add-suc}
 use native.Mathlib.Omega.{arith}
@@ -24,6 +24,11 @@ module _ (c : Calendar) where
   -- the month that holds middle term j
   abbrev pub termMonth : ℕ → ℕ
   termMonth j = monthOf c (c .mid j)
+
+  -- a year's head is the month of its solstice
+  pub head-is : (n : ℕ) → head c n ≡ termMonth (12 * n)
+  unfolding head
+  head-is n = refl
 
 module _ (c : Calendar) (ok : Lawful c) where
   -- first days rise, and the days of the middle terms
@@ -71,13 +76,11 @@ module _ (c : Calendar) (ok : Lawful c) where
 
   -- the head of a year holds its solstice
   pub head-holds : (n : ℕ) → Holds c (head c n) (12 * n)
-  unfolding head
-  head-holds n = term-held (12 * n)
+  head-holds n = rw (head-is c n) (term-held (12 * n))
 
   -- and is the one month that does
   pub head-unique : (n l : ℕ) → Holds c l (12 * n) → l ≡ head c n
-  unfolding head
-  head-unique n l h = month-of (c .mid (12 * n)) l h
+  head-unique n l h = month-of (c .mid (12 * n)) l h ∙ sym (head-is c n)
 
   -- it is the last month whose first day is not after the solstice's day
   pub head-last : (n l : ℕ) → c .first l ≤ c .mid (12 * n) → l ≤ head c n
@@ -88,5 +91,5 @@ module _ (c : Calendar) (ok : Lawful c) where
   head-zero = sym (head-unique 0 0 (record { since = ok .opening; until = ok .opened }))
 
   pub head-rises : (n : ℕ) → head c n < head c (suc n)
-  unfolding head
-  head-rises n = rises-strictly (termMonth c) term-months-rise (12 * n) (12 * suc n) (omega arith)
+  head-rises n =
+      omega (arith, head-is c n, head-is c (suc n), rises-strictly (termMonth c) term-months-rise (12 * n) (12 * suc n) (omega arith))

@@ -5,7 +5,7 @@ use mathlib.Core.Bool.{true, false}
 use mathlib.Core.List.{List, [], _∷_, _++_}
 use mathlib.Core.Logic.{⊎-elim}
 use mathlib.Core.Path.{_≡_, refl, ap, sym, _∙_}
-use Prim.Native.Nat.{ℕ, zero, suc, _+_, _-_, _*_, _≤_, _<_}
+use Prim.Native.Nat.{ℕ, zero, suc, _+_, _-_, _*_, _%_, _≤_, _<_}
 use native.Mathlib.Nat.{add-suc}
 use native.Mathlib.Omega.{arith}
 use Rattle.rows.specs.Choice.{if_then_else_}
@@ -14,8 +14,7 @@ use Rattle.month_law.specs.Count.{oneIf, count}
 use Rattle.month_law.specs.Calendar.{Calendar, numberOfRank, head, monthsIn, leapAt, numberAt}
 use Rattle.month_law.specs.Lawful.{Lawful}
 use Rattle.month_law.proofs.Count.{count-suc}
-use Rattle.month_law.proofs.Months.{Holds}
-use Rattle.month_law.proofs.Terms.{lastTerm, termsBefore, held-is-last, terms-next, head-before, list-to-year}
+use Rattle.month_law.proofs.Terms.{lastTerm, termsBefore, terms-next, head-before, list-to-year}
 use Rattle.month_law.proofs.Lists.{lacking-count, leap-count, leaps-in, place-listed}
 
 module _ (c : Calendar) where
@@ -37,6 +36,11 @@ module _ (c : Calendar) where
   unfoldable pub ordinaryNumbers : ℕ → ℕ → List ℕ
   ordinaryNumbers n zero = []
   ordinaryNumbers n (suc k) = if leapAt c n k then ordinaryNumbers n k else ordinaryNumbers n k ++ (numberAt c n k ∷ [])
+
+-- the twelve numbers come round, the first of them 11
+pub rank-number : (t : ℕ) → numberOfRank t ≡ (t + 10) % 12 + 1
+unfolding numberOfRank
+rank-number t = refl
 
 -- the numbers of the first k ranks
 names : ℕ → List ℕ
@@ -63,10 +67,6 @@ module _ (c : Calendar) (ok : Lawful c) (n : ℕ) where
   pub number-by-term : (p : ℕ) → p < monthsIn c n → numberAt c n p ≡ numberOfRank (lastTerm c (head c n + p))
   unfolding numberOfRank
   number-by-term p h = omega (arith, number-rank c n p, rank-term p h)
-
-  -- and a month that holds middle term j has the number of j
-  pub number-of-held : (p j : ℕ) → p < monthsIn c n → Holds c (head c n + p) j → numberAt c n p ≡ numberOfRank j
-  number-of-held p j h g = number-by-term p h ∙ ap numberOfRank (sym (held-is-last c ok (head c n + p) j g))
 
   -- the ordinary months among the first k have the first numbers in order
   abbrev InOrder : ℕ → Type 0

@@ -7,7 +7,7 @@ use Prim.Native.Nat.{ℕ, zero, suc, _+_, _-_, _*_, _/_, _≤_}
 use native.Mathlib.Nat.{add-zero, add-suc, add-sub-of-le}
 use native.Mathlib.Omega.{arith}
 use Rattle.rows.specs.Row.{listed}
-use Rattle.rows.proofs.Row.{listed-append}
+use Rattle.rows.proofs.Row.{listed-none, listed-append}
 use Rattle.month_law.specs.Count.{count}
 use Rattle.month_law.specs.Calendar.{Calendar, head, monthsIn, yearOf, leapAt}
 use Rattle.month_law.specs.Lawful.{Lawful}
@@ -83,10 +83,10 @@ module _ (c : Calendar) (ok : Lawful c) where
 
   -- laid end to end they are these months in order, each once
   pub run-is : (a k : ℕ) → runOf c a k ≡ monthsFrom (head c a) (head c (a + k) - head c a)
-  unfolding runOf listed
+  unfolding runOf
   run-is a zero =
       let none : head c (a + 0) - head c a ≡ 0 = omega (arith, ap (head c) (add-zero a)) in
-      rw none
+      rw (none, listed-none)
   run-is a (suc k) = one-more a k (run-is a k)
 
   leaps-sum : (a k : ℕ) → head c a + 12 * k + leapsFrom c a k ≡ head c (a + k)

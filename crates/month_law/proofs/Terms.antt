@@ -3,7 +3,7 @@
 -- Assumes nothing.
 use mathlib.Core.Bool.{Bool, true, false}
 use mathlib.Core.Logic.{⊎-elim}
-use mathlib.Core.Path.{_≡_, ap, subst, sym, _∙_}
+use mathlib.Core.Path.{_≡_, refl, ap, subst, sym, _∙_}
 use Prim.Native.Nat.{ℕ, suc, _+_, _-_, _*_, _≤_, _<_}
 use native.Mathlib.Nat.{lt-of-not-le}
 use native.Mathlib.Omega.{arith}
@@ -37,6 +37,10 @@ module _ (c : Calendar) where
   -- how many middle terms lie before month l
   abbrev pub termsBefore : ℕ → ℕ
   termsBefore l = lastTerm l + oneIf (lacks l)
+
+  pub lacks-is : (l : ℕ) → lacks l ≡ (c .mid (lastTerm l) <? c .first l)
+  unfolding lacks
+  lacks-is l = refl
 
 -- j is the last middle term not after the last day of month l
 pub record IsLast (c : Calendar) (l j : ℕ) : Type 0 where

@@ -38,7 +38,7 @@ fn reply_buffer() -> [u8; ROOM]
 }
 
 // Reads once, after the kept bytes, which stay.
-fn fill(buf: &mut [u8], kept: usize) -> Got
+fn read_more(buf: &mut [u8], kept: usize) -> Got
     requires { ⌜ kept ≤ length (now buf) ⌝ }
     ensures { λ r. ⌜ Within r (length (now (buf .entry)) - kept) ⌝ }
     ensures { λ _. ⌜ take kept (now (buf .exit)) ≡ take kept (now (buf .entry)) ⌝ }
@@ -65,7 +65,7 @@ fn answer_read(buf: &mut [u8], kept: usize, have: usize, out: &mut [u8]) -> Read
     ensures { λ _. ⌜ now (buf .exit) ≡ over (keptFor kept (take have (now (buf .entry)))) (now (buf .entry)) ⌝ }
 {
     if have == kept {
-        return Read::Last(lines::blocks::answer_lines(&buf[..have], out));
+        return Read::Last(lines::blocks::answer_whole_lines(&buf[..have], out));
     }
     Read::Part(lines::blocks::answer_block(buf, have, out))
 }
@@ -103,7 +103,7 @@ fn one_turn(buf: &mut [u8], out: &mut [u8], kept: usize) -> Turn
     requires { ⌜ Unfinished (take kept (now buf)) ⌝ }
     ensures { λ r. ⌜ Left r (take kept (now (buf .entry))) (now (buf .exit)) ⌝ }
 {
-    let Got::Bytes(more) = fill(buf, kept) else {
+    let Got::Bytes(more) = read_more(buf, kept) else {
         io::write_all(
             STDERR_FILENO,
             b"month_lines: the input could not be read to its end\n",

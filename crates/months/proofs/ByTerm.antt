@@ -1,18 +1,38 @@
 -- A month's year, number and leap mark by the last middle term before its end.
 -- Assumes nothing.
-use mathlib.Core.Path.{_≡_, ap, sym, _∙_}
+use mathlib.Core.Path.{_≡_, refl, ap, sym, _∙_}
 use Prim.Native.Nat.{ℕ, suc, _+_, _-_, _/_, _<_}
 use native.Mathlib.Omega.{arith}
 use Rattle.month_law.specs.Calendar.{Calendar, lengthOf, monthOf, head, monthsIn, yearOf}
 use Rattle.month_law.specs.Lawful.{Lawful}
 use Rattle.month_law.proofs.Rising.{step-unique}
 use Rattle.month_law.proofs.Months.{mid-rises}
-use Rattle.month_law.proofs.Terms.{lastTerm, lacks, last-unique, InList, year-to-list}
+use Rattle.month_law.proofs.Terms.{lastTerm, lacks-is, last-unique, InList, year-to-list}
 use Rattle.month_law.proofs.Lists.{leap-lacks, listed-place}
 use Rattle.month_law.proofs.Numbers.{number-by-term}
 use Rattle.month_law.proofs.Runs.{year-of}
+use Rattle.months.specs.Kind.{Kind}
 use Rattle.months.specs.Month.{MonthOfDay, kindAt, placed, monthOfDay}
 use Rattle.months.specs.Span.{LastBefore, kindBy}
+
+module _ (c : Calendar) where
+  -- day d of month l, which stands in the list of year n
+  abbrev pub monthTold : ℕ → ℕ → ℕ → Kind → MonthOfDay
+  monthTold d l n kind =
+      record {
+        kind = kind;
+        year = n;
+        place = l - head c n;
+        day = d - c .first l + 1;
+        first = c .first l;
+        length = lengthOf c l;
+      }
+
+  -- the month of a day is the month that holds it, in the year in whose list that month stands
+  pub month-of-day : (d : ℕ)
+      → let l = monthOf c d in let n = yearOf c l in monthOfDay c d ≡ monthTold d l n (kindAt c n (l - head c n))
+  unfolding monthOfDay placed
+  month-of-day d = refl
 
 module _ (c : Calendar) (ok : Lawful c) where
   -- a day has one last middle term before it
@@ -35,11 +55,11 @@ module _ (c : Calendar) (ok : Lawful c) where
   -- and its kind
   pub kind-is : (n p j : ℕ) → p < monthsIn c n → LastBefore c (c .first (suc (head c n + p))) j
       → kindBy c (c .first (head c n + p)) j ≡ kindAt c n p
-  unfolding kindAt lacks
+  unfolding kindAt
   kind-is n p j h last =
       let l = head c n + p in
       let e : j ≡ lastTerm c l = last-is l j last in
-      rw (leap-lacks c ok n p h, number-by-term c ok n p h, ← e)
+      rw (leap-lacks c ok n p h, lacks-is c l, number-by-term c ok n p h, ← e)
 
   pub kind-told : (l j : ℕ) → LastBefore c (c .first (suc l)) j → kindBy c (c .first l) j ≡ kindAt c (j / 12) (l - head c (j / 12))
   kind-told l j last =
@@ -50,26 +70,6 @@ module _ (c : Calendar) (ok : Lawful c) where
 
   -- so the month of a day is told by its span and that term
   pub month-is : (d l j : ℕ) → l ≡ monthOf c d → LastBefore c (c .first (suc l)) j
-      → _≡_ {A = MonthOfDay}
-      (record {
-        kind = kindBy c (c .first l) j;
-        year = j / 12;
-        place = l - head c (j / 12);
-        day = d - c .first l + 1;
-        first = c .first l;
-        length = lengthOf c l;
-      })
-      (monthOfDay c d)
-  unfolding monthOfDay placed
+      → monthTold c d l (j / 12) (kindBy c (c .first l) j) ≡ monthOfDay c d
   month-is d l j e last =
-      let n = j / 12 in
-      rw (← e, ← year-is l j last)
-      (λ i.
-      record {
-        kind = kind-told l j last i;
-        year = n;
-        place = l - head c n;
-        day = d - c .first l + 1;
-        first = c .first l;
-        length = lengthOf c l;
-      })
+      rw (month-of-day c d, ← e, ← year-is l j last) (ap (monthTold c d l (j / 12)) (kind-told l j last))

@@ -6,7 +6,8 @@ use Prim.Native.Nat.{ℕ, suc, _+_, _*_, _≤_, _<_}
 use native.Mathlib.Omega.{arith}
 use Rattle.measure.specs.Units.{day, month, lastYear}
 use Rattle.measure.specs.Epoch.{shoushi, meanStart}
-use Rattle.moons.specs.Lunation.{lastLunation, mean}
+use Rattle.moons.specs.Lunation.{lastLunation}
+use Rattle.moons.proofs.Times.{mean-new}
 use Rattle.moons.proofs.Corrected.{correctionSize}
 use Rattle.month_law.specs.Calendar.{Calendar, monthOf, head, monthsIn}
 use Rattle.edition.specs.Edition.{middleDay, calendar}
@@ -71,19 +72,16 @@ pub record MeanBefore (d l : ℕ) : Type 0 where
 late : correctionSize ≤ meanStart shoushi
 late = omega arith
 
-mean-is : (l : ℕ) → mean shoushi l 0 ≡ meanStart shoushi + l * month
-unfolding mean
-mean-is l = omega arith
-
 module _ (d l : ℕ) (at : MeanBefore d l) where
   pub begun-before : (k : ℕ) → suc k ≡ l → c .first k ≤ d
-  begun-before k e = omega (arith, near shoushi late k, mean-is k)
+  begun-before k e = omega (arith, near shoushi late k, mean-new shoushi k)
 
   pub over-after : d < c .first (l + 2)
-  over-after = omega (arith, near shoushi late (l + 2), mean-is (l + 2))
+  over-after = omega (arith, near shoushi late (l + 2), mean-new shoushi (l + 2))
 
 -- a month that holds the day is the day's
-pub span-is : (d l first next : ℕ) → InMonth c l d → first ≡ c .first l → next ≡ c .first (suc l)
+pub span-is : (d l first next : ℕ) → first ≡ c .first l → next ≡ c .first (suc l) → first ≤ d → d < next
     → _≡_ {A = Span} (record { lunation = l; first = first; next = next }) (spanOf c (monthOf c d))
-span-is d l first next h f n =
-    (λ i. record { lunation = l; first = f i; next = n i }) ∙ ap (spanOf c) (month-of c shoushi-lawful d l h)
+span-is d l first next f n since until =
+    (λ i. record { lunation = l; first = f i; next = n i })
+    ∙ ap (spanOf c) (month-of c shoushi-lawful d l (record { since = omega arith; until = omega arith }))

@@ -6,7 +6,7 @@ use mathlib.Core.Logic.{⊎-elim}
 use mathlib.Core.Path.{_≡_, refl, ap, sym, _∙_}
 use Prim.Native.Nat.{ℕ, _≤_}
 use native.Mathlib.Omega.{arith}
-use Rattle.rows.specs.Reply.{Reply, answer, refused, outside}
+use Rattle.rows.specs.Reply.{answer, refused, outside}
 use Rattle.measure.specs.Units.{lastYear}
 use Rattle.measure.specs.Epoch.{shoushi}
 use Rattle.month_law.specs.Calendar.{Calendar}
@@ -16,7 +16,7 @@ use Rattle.month_law.proofs.Days.{dateOf}
 use Rattle.months.specs.Month.{earliest, latest, placed, monthOfDay, dayReply}
 use Rattle.months.proofs.Dated.{day-dated, day-admitted}
 use Rattle.months.specs.Date.{backReply, hasDate}
-use Rattle.months.proofs.Back.{date, dayOfDate, listed-or-not, back-answered, back-refused, date-given}
+use Rattle.months.proofs.Back.{date, dayOfDate, back-answered, listed-or-refused, date-given}
 
 abbrev c : Calendar
 c = calendar shoushi
@@ -33,21 +33,15 @@ day-there-and-back d h k =
     (record { listed = x .listed; since = x .since; until = x .until; counted = refl })
     ∙ ap answer (sym e)
 
--- an answer to the way back is never a refusal
-answer-only : {A : Type 0} (r : Reply A) (a : A) (k : ℕ) → r ≡ answer a → r ≡ refused k → ⊥
-answer-only r a k p q = let z : _≡_ {A = ℕ} 0 1 = cc in omega arith
-
-same-answer : {A : Type 0} (r : Reply A) (a b : A) → r ≡ answer a → r ≡ answer b → a ≡ b
-same-answer r a b p q = cc
-
 pub place-there-and-back : (n p m d : ℕ) → n ≤ lastYear → backReply shoushi n p m ≡ answer d
     → hasDate (dayReply shoushi d) n p m ≡ true
-place-there-and-back n p m d h e = ⊎-elim listed unlisted (listed-or-not n p m)
+place-there-and-back n p m d h e = ⊎-elim listed unlisted (listed-or-refused n p m h)
   where
     listed : Dated c (dayOfDate n p m) (date n p m) → hasDate (dayReply shoushi d) n p m ≡ true
     listed there =
-        let same : dayOfDate n p m ≡ d = same-answer (backReply shoushi n p m) (dayOfDate n p m) d (back-answered n p m h there) e in
-        ap (λ (x : ℕ). hasDate (dayReply shoushi x) n p m) (sym same) ∙ date-given n p m (dayOfDate n p m) h there
+        let given = back-answered n p m h there in
+        let same : dayOfDate n p m ≡ d = cc in
+        rw (← same) (date-given n p m (dayOfDate n p m) h there)
 
-    unlisted : ¬ Dated c (dayOfDate n p m) (date n p m) → hasDate (dayReply shoushi d) n p m ≡ true
-    unlisted none = absurd (answer-only (backReply shoushi n p m) d outside e (back-refused n p m h none))
+    unlisted : backReply shoushi n p m ≡ refused outside → hasDate (dayReply shoushi d) n p m ≡ true
+    unlisted refusal = let never : _≡_ {A = ℕ} 0 1 = cc in absurd (omega arith)

@@ -4,7 +4,8 @@ use Prim.Native.Nat.{ℕ, _≤_}
 use native.Mathlib.Omega.{arith}
 use Rattle.rows.proofs.Choice.{if-cases}
 use Rattle.months.specs.Kind.{Kind, ordinary, leap, numberIn, markIn}
-use Rattle.month_law.specs.Calendar.{Calendar, numberOfRank, leapAt, numberAt}
+use Rattle.month_law.specs.Calendar.{Calendar, leapAt, numberAt}
+use Rattle.month_law.proofs.Numbers.{rankAt, number-rank, rank-number}
 use Rattle.months.specs.Month.{kindAt}
 
 abbrev Small : Kind → Type 0
@@ -12,8 +13,7 @@ Small k = (numberIn k ≤ 12) × (markIn k ≤ 1)
 
 module _ (c : Calendar) (n p : ℕ) where
   pub number-most : numberAt c n p ≤ 12
-  unfolding numberAt numberOfRank
-  number-most = omega arith
+  number-most = omega (arith, number-rank c n p, rank-number (rankAt c n p))
 
   pub kind-most : Small (kindAt c n p)
   unfolding kindAt

@@ -18,9 +18,8 @@ use Rattle.inequalities.specs.Motion.{motion}
 use Rattle.inequalities.proofs.MotionAt.{motion-most}
 use Rattle.moons.specs.Lunation.{Counted, mean}
 use Rattle.moons.specs.TrueMoon.{correctionFactor, correction, correctionOf, moved, trueMoon}
-use Rattle.moons.proofs.Sizes.{differenceSize, difference-size}
 use Rattle.moons.proofs.Times.{mean-most}
-use Rattle.moons.proofs.Corrected.{difference, integer-correction, correction-size, correction-of-size, integer-true}
+use Rattle.moons.proofs.Corrected.{difference, integer-correction, differenceSize, difference-size, correction-size, correction-of-size, integer-true}
 
 -- ---- what fits
 mag-mul : (z : ℤ) (k : ℕ) → mag (z *ℤ pos k) ≤ (mag z + 1) * k

@@ -14,10 +14,10 @@ use Rattle.signed.proofs.Sizes.{Within}
 use Rattle.inequalities.specs.Solar.{solar}
 use Rattle.inequalities.specs.Lunar.{lunar}
 use Rattle.inequalities.specs.Motion.{motion}
+use Rattle.inequalities.proofs.Sizes.{solarSize, lunarSize, solar-size, lunar-size}
 use Rattle.inequalities.proofs.MotionAt.{motion-least}
 use Rattle.moons.specs.Lunation.{mean, solarTime, anomaly}
 use Rattle.moons.specs.TrueMoon.{correctionFactor, corrected, correction, correctionOf, moved, trueMoon}
-use Rattle.moons.proofs.Sizes.{difference-size}
 use Rattle.moons.proofs.Quotient.{quotient-least, corrected-is}
 use Rattle.moons.proofs.Times.{mean-least}
 
@@ -26,26 +26,17 @@ quot-neg : (n m : ℕ) → quotZ (negℤ (pos n)) (pos m) ≡ negℤ (pos (n / m
 quot-neg zero m = simp zero-div
 quot-neg (suc n) m = refl
 
-corrected-behind : (n : ℕ) (x : Signed) (m : ℕ) → Is (negsuc n) x
-    → Is (quotZ (negsuc n *ℤ pos correctionFactor) (pos m)) (corrected x m)
+is-corrected : (z : ℤ) (x : Signed) (m : ℕ) → Is z x → Is (quotZ (z *ℤ pos correctionFactor) (pos m)) (corrected x m)
 unfolding corrected
-corrected-behind n x m h =
+is-corrected (pos n) x m h =
+    let left : x .ahead - x .behind ≡ n = omega arith in
+    let none : x .behind - x .ahead ≡ 0 = omega arith in
+    simp (left, none, zero-div) (omega arith)
+is-corrected (negsuc n) x m h =
     let none : x .ahead - x .behind ≡ 0 = omega arith in
     let left : x .behind - x .ahead ≡ suc n = omega arith in
     rw (quot-neg (suc n * correctionFactor) m)
     (is-neg (suc n * correctionFactor / m) (corrected x m) (simp (left, none, zero-div) (omega arith)))
-
-corrected-ahead : (n : ℕ) (x : Signed) (m : ℕ) → Is (pos n) x
-    → Is (quotZ (pos n *ℤ pos correctionFactor) (pos m)) (corrected x m)
-unfolding corrected
-corrected-ahead n x m h =
-    let left : x .ahead - x .behind ≡ n = omega arith in
-    let none : x .behind - x .ahead ≡ 0 = omega arith in
-    simp (left, none, zero-div) (omega arith)
-
-is-corrected : (z : ℤ) (x : Signed) (m : ℕ) → Is z x → Is (quotZ (z *ℤ pos correctionFactor) (pos m)) (corrected x m)
-is-corrected (pos n) x m h = corrected-ahead n x m h
-is-corrected (negsuc n) x m h = corrected-behind n x m h
 
 unfoldable pub difference : ℕ → ℕ → ℤ
 difference s a = integer (solar s) -ℤ integer (lunar a)
@@ -59,6 +50,12 @@ integer-correction s a =
     (is-corrected (integer x) x (motion a) (is-integer x))))
 
 -- ---- its size: 1.2 days at most
+abbrev pub differenceSize : ℕ
+differenceSize = solarSize + lunarSize
+
+pub difference-size : (s a : ℕ) → Within differenceSize (minus (solar s) (lunar a))
+difference-size s a = omega (arith, solar-size s, lunar-size a)
+
 abbrev pub correctionSize : ℕ
 correctionSize = 120_000_000
 

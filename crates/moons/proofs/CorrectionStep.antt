@@ -8,14 +8,14 @@ use native.Mathlib.Omega.{arith}
 use Rattle.measure.specs.Units.{year, anomalisticMonth, anomalyAdvance, monthDeficit}
 use Rattle.rows.proofs.Choice.{lt-or-ge}
 use Rattle.signed.specs.Signed.{Signed, aheadBy, minus}
-use Rattle.signed.proofs.Sizes.{Within, gap, gap-sym, gap-minus}
+use Rattle.signed.proofs.Sizes.{Within, gap, gap-is, gap-sym, gap-minus}
 use Rattle.inequalities.specs.Solar.{solar}
 use Rattle.inequalities.specs.Lunar.{lunar}
 use Rattle.inequalities.specs.Motion.{motion}
 use Rattle.inequalities.proofs.MotionRows.{leastMotion, motionStep}
 use Rattle.inequalities.proofs.MotionAt.{motion-least}
 use Rattle.moons.specs.TrueMoon.{corrected, correction}
-use Rattle.moons.proofs.Sizes.{differenceSize, difference-size}
+use Rattle.moons.proofs.Corrected.{differenceSize, difference-size}
 use Rattle.moons.proofs.Quotient.{quotient, quotient-above, quotient-below, quotient-least, corrected-is}
 use Rattle.inequalities.proofs.SolarStep.{mostSolarAdvance, solarStepBound, solar-step}
 use Rattle.inequalities.proofs.LunarStep.{lunarStepBound, lunar-step}
@@ -79,8 +79,9 @@ module _ (z z' : Signed) (m m' : ℕ) (size : Within differenceSize z) (size' : 
     (h : leastMotion ≤ m) (h' : leastMotion ≤ m') (near : gap (aheadBy m) (aheadBy m') ≤ motionStep) where
   corrected-rises : corrected z' m' .ahead + corrected z m .behind
       ≤ corrected z m .ahead + corrected z' m' .behind + monthDeficit
-  unfolding gap
   corrected-rises =
+      let apart = gap-is z z' in
+      let rates = gap-is (aheadBy m) (aheadBy m') in
       omega (
         arith,
         corrected-is z m,
@@ -90,21 +91,16 @@ module _ (z z' : Signed) (m m' : ℕ) (size : Within differenceSize z) (size' : 
             (omega arith) (omega arith) (omega arith) h h' (omega arith) (omega arith),
       )
 
-corrected-step : (z z' : Signed) (m m' : ℕ)
-    → Within differenceSize z
-    → Within differenceSize z'
-    → gap z z' ≤ differenceStep
-    → leastMotion ≤ m
-    → leastMotion ≤ m'
-    → gap (aheadBy m) (aheadBy m') ≤ motionStep
-    → gap (corrected z m) (corrected z' m') ≤ monthDeficit
-unfolding gap
-corrected-step z z' m m' size size' step h h' near =
-    omega (
-      arith,
-      corrected-rises z z' m m' size size' step h h' near,
-      corrected-rises z' z m' m size' size (rw (gap-sym z' z) step) h' h (rw (gap-sym (aheadBy m') (aheadBy m)) near),
-    )
+module _ (z z' : Signed) (m m' : ℕ) (size : Within differenceSize z) (size' : Within differenceSize z') (step : gap z z' ≤ differenceStep)
+    (h : leastMotion ≤ m) (h' : leastMotion ≤ m') (near : gap (aheadBy m) (aheadBy m') ≤ motionStep) where
+  corrected-step : gap (corrected z m) (corrected z' m') ≤ monthDeficit
+  corrected-step =
+      omega (
+        arith,
+        gap-is (corrected z m) (corrected z' m'),
+        corrected-rises z z' m m' size size' step h h' near,
+        corrected-rises z' z m' m size' size (rw (gap-sym z' z) step) h' h (rw (gap-sym (aheadBy m') (aheadBy m)) near),
+      )
 
 -- at any solar time, with any advance up to a month and a day, and at any anomaly, with that of the next lunation
 pub correction-step : (s e a : ℕ) → s < year → e ≤ mostSolarAdvance → a < anomalisticMonth

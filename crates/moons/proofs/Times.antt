@@ -15,6 +15,10 @@ pub anomaly-lt : (e : Epoch) (l q : ℕ) → anomaly e l q < anomalisticMonth
 unfolding anomaly
 anomaly-lt e l q = omega arith
 
+pub mean-new : (e : Epoch) (l : ℕ) → mean e l 0 ≡ meanStart e + l * month
+unfolding mean
+mean-new e l = omega arith
+
 pub mean-least : (e : Epoch) (l q : ℕ) → meanStart e ≤ mean e l q
 unfolding mean
 mean-least e l q = omega arith

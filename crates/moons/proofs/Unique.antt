@@ -3,38 +3,25 @@
 use mathlib.Core.Path.{_∙_, sym}
 use Rattle.rows.proofs.Determined.{OneReply, one-answer}
 use Rattle.signed.proofs.Unique.{one-signed}
-use Rattle.moons.proofs.mean.Kinds as mean
-use Rattle.moons.proofs.mean.Reads as mean-reads
-use Rattle.moons.proofs.solar.Kinds as solar
-use Rattle.moons.proofs.solar.Reads as solar-reads
-use Rattle.moons.proofs.lunar.Kinds as lunar
-use Rattle.moons.proofs.lunar.Reads as lunar-reads
-use Rattle.moons.proofs.motion.Kinds as motion
-use Rattle.moons.proofs.motion.Reads as motion-reads
-use Rattle.moons.proofs.correction.Kinds as correction
-use Rattle.moons.proofs.correction.Reads as correction-reads
-use Rattle.moons.proofs.true_moon.Kinds as true-moon
-use Rattle.moons.proofs.true_moon.Reads as true-moon-reads
-use Rattle.moons.proofs.true_time.Kinds as true-time
-use Rattle.moons.proofs.true_time.Reads as true-time-reads
+use Rattle.moons.proofs as own
 
-pub mean-unique : OneReply mean.ps mean.r mean-reads.Post
+pub mean-unique : OneReply own.mean.Kinds.ps own.mean.Kinds.r own.mean.Reads.Post
 mean-unique κs a x y s t p q = one-answer x y _ p q
 
-pub solar-unique : OneReply solar.ps solar.r solar-reads.Post
+pub solar-unique : OneReply own.solar.Kinds.ps own.solar.Kinds.r own.solar.Reads.Post
 solar-unique κs a x y s t p q = one-signed x y _ p q
 
-pub lunar-unique : OneReply lunar.ps lunar.r lunar-reads.Post
+pub lunar-unique : OneReply own.lunar.Kinds.ps own.lunar.Kinds.r own.lunar.Reads.Post
 lunar-unique κs a x y s t p q = one-signed x y _ p q
 
-pub motion-unique : OneReply motion.ps motion.r motion-reads.Post
+pub motion-unique : OneReply own.motion.Kinds.ps own.motion.Kinds.r own.motion.Reads.Post
 motion-unique κs a x y s t p q = one-answer x y _ p q
 
-pub correction-unique : OneReply correction.ps correction.r correction-reads.Post
+pub correction-unique : OneReply own.correction.Kinds.ps own.correction.Kinds.r own.correction.Reads.Post
 correction-unique κs a x y s t p q = one-signed x y _ p q
 
-pub true-moon-unique : OneReply true-moon.ps true-moon.r true-moon-reads.Post
+pub true-moon-unique : OneReply own.true_moon.Kinds.ps own.true_moon.Kinds.r own.true_moon.Reads.Post
 true-moon-unique κs a x y s t p q = one-answer x y _ p q
 
-pub true-time-unique : OneReply true-time.ps true-time.r true-time-reads.Post
+pub true-time-unique : OneReply own.true_time.Kinds.ps own.true_time.Kinds.r own.true_time.Reads.Post
 true-time-unique κs a x y s t p q = p ∙ sym q

@@ -16,8 +16,8 @@ use Rattle.signed.specs.Signed.{signedSaid}
 use Rattle.signed.specs.declared.SignedAnswer.{SignedAnswer}
 use Rattle.remainders.specs.Hours.{hourSaid}
 use Rattle.remainders.specs.ExtraDays.{Found, daysSaid}
-use Rattle.remainders.specs.declared.Hour.{Hour as HourAnswer}
-use Rattle.remainders.specs.declared.Days.{Days as DaysAnswer}
+use Rattle.remainders.specs.declared.HourAnswer.{HourAnswer}
+use Rattle.remainders.specs.declared.DaysAnswer.{DaysAnswer}
 use Rattle.seasons.specs.Terms.{terms as termsInYear}
 use Rattle.months.specs.Month.{MonthOfDay, monthAnswerSaid}
 use Rattle.months.specs.declared.MonthAnswer.{MonthAnswer}

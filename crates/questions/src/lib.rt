@@ -5,8 +5,8 @@ mod marks;
 
 use measure::Name;
 use months::MonthAnswer;
-use remainders::Days;
-use remainders::Hour;
+use remainders::DaysAnswer;
+use remainders::HourAnswer;
 use rows::Answer;
 use signed::SignedAnswer;
 use words::Numbers;
@@ -30,9 +30,9 @@ pub enum DeskAnswer {
     // The name of a day.
     Name(Name),
     // A double-hour with its ke.
-    Hour(Hour),
+    Hour(HourAnswer),
     // Days to add.
-    Days(Days),
+    Days(DaysAnswer),
     // How many numbers, records or years stand in the lent row: the terms of a year, its months, those of a run of years, and the years that
     // agree with a torn sheet.
     Terms(Answer),

@@ -1,4 +1,4 @@
-pub mod Rows
+pub mod Walk
 pub mod Structs
 pub mod Runs
 pub mod Unique

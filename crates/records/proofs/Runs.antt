@@ -1,11 +1,12 @@
 -- What a run's reply says of its row of structs.
 -- Assumes nothing.
 use mathlib.Core.List.{List}
-use mathlib.Core.Path.{_≡_, _∙_}
+use mathlib.Core.Path.{_≡_, _∙_, refl, ap}
 use Prim.Native.Nat.{ℕ, suc, _+_, _≤_, _<_}
 use native.Mathlib.Omega.{arith}
 use lib.ListN.{length}
-use Rattle.rows.specs.Reply.{Reply, answer, answerSaid}
+use Rattle.rows.specs.Reply.{Reply, answer, refused, answerSaid}
+use Rattle.rows.specs.Row.{listed, over, rowAfter}
 use Rattle.measure.specs.Units.{lastYear}
 use Rattle.measure.specs.Epoch.{shoushi}
 use Rattle.rows.specs.declared.Answer.{Answer}
@@ -17,10 +18,10 @@ use Rattle.lists.specs.Records.{recordsOf}
 use Rattle.lists.specs.Lists.{runOf, monthsInRun, listReply, runReply}
 use Rattle.months.proofs.Reach.{head-most}
 use Rattle.lists.proofs.RunLaws.{run-ends, months-run-most}
-use Rattle.lists.proofs.Asked.{Outcome, no, yes, outcome, reply-of-one, run-of-one}
-use Rattle.records.specs.MonthRecords.{inRecords, monthsFrom, over, rowAfter, writtenIn}
+use Rattle.lists.proofs.Asked.{run-cases, reply-of-one, run-of-one}
+use Rattle.records.specs.MonthRecords.{inRecords, writtenIn}
 use Rattle.records.specs.declared.MonthRecord.{MonthRecord}
-use Rattle.records.proofs.Structs.{records-of-run}
+use Rattle.records.proofs.Structs.{structsFrom, records-of-run}
 
 abbrev cal : Calendar
 cal = calendar shoushi
@@ -35,43 +36,33 @@ YearSays n row = Says (listReply shoushi n (length row)) (recordsOf cal n (month
 abbrev pub RunSays : ℕ → ℕ → List MonthRecord → Answer → List MonthRecord → Type 0
 RunSays n k row = Says (runReply shoushi n k (length row)) (runOf cal n k) row
 
-module _ (n k room : ℕ) where
-  -- what is written has room in the row
-  pub written-fits : writtenIn (runReply shoushi n k room) ≤ room
-  unfolding runReply
-  written-fits = by (outcome n k room)
-    where
-      by : Outcome n k room → writtenIn (runReply shoushi n k room) ≤ room
-      by (no m f) = rw (f (answer (monthsInRun cal n k))) (omega arith)
-      by (yes f h r) = rw (f (answer (monthsInRun cal n k))) (omega (arith, r, months-run-most cal shoushi-lawful n k))
+-- so many months from `start` on are written for a reply: they have room in the row, are counted ones, and are the run's
+pub record Planned (n k room start months : ℕ) (reply : Reply ℕ) : Type 0 where
+  pub within : months ≤ room
+  pub counted : (i : ℕ) → i < months → start + i ≤ lastLunation
+  pub told : (row : List MonthRecord) → over (structsFrom cal start months) row ≡ rowAfter reply (inRecords (runOf cal n k)) row
 
-  module _ (start : ℕ) (begins : n ≤ suc lastYear → start ≡ head cal n) where
-    -- its months are counted ones
-    pub written-counted : 0 < writtenIn (runReply shoushi n k room) → start + writtenIn (runReply shoushi n k room) ≤ suc lastLunation
-    unfolding runReply
-    written-counted = by (outcome n k room)
-      where
-        by : Outcome n k room
-            → 0 < writtenIn (runReply shoushi n k room) → start + writtenIn (runReply shoushi n k room) ≤ suc lastLunation
-        by (no m f) = rw (f (answer (monthsInRun cal n k))) (λ (h : 0 < 0). omega arith)
-        by (yes f h r) =
-            let at : start ≡ head cal n = begins (omega arith) in
-            rw (f (answer (monthsInRun cal n k))) (λ (p : 0 < monthsInRun cal n k). omega (arith, at, run-ends cal shoushi-lawful n k, head-most (n + k) h))
-
-    -- and are the run's
-    pub written-run : (row : List MonthRecord)
-        → over (monthsFrom cal start (writtenIn (runReply shoushi n k room))) row
-        ≡ rowAfter (runReply shoushi n k room) (inRecords (runOf cal n k)) row
-    unfolding over monthsFrom runReply
-    written-run row = by (outcome n k room)
-      where
-        by : Outcome n k room
-            → over (monthsFrom cal start (writtenIn (runReply shoushi n k room))) row
-            ≡ rowAfter (runReply shoushi n k room) (inRecords (runOf cal n k)) row
-        by (no m f) = rw (f (answer (monthsInRun cal n k)))
-        by (yes f h r) =
-            let at : start ≡ head cal n = begins (omega arith) in
-            rw (f (answer (monthsInRun cal n k)), at, records-of-run cal shoushi-lawful n k)
+pub planned : (n k room start months : ℕ) (r : Answer) → answerSaid r ≡ runReply shoushi n k room → months ≡ writtenIn (answerSaid r)
+    → (n ≤ suc lastYear → start ≡ head cal n)
+    → Planned n k room start months (runReply shoushi n k room)
+unfolding over structsFrom listed
+planned n k room start months r er em begins =
+    run-cases (λ (reply : Reply ℕ). answerSaid r ≡ reply → Planned n k room start months reply) shoushi n room (nothing _) (nothing _) k
+    (λ h fits e.
+    let all : months ≡ monthsInRun cal n k = em ∙ ap writtenIn e in
+    let at : start ≡ head cal n = begins (omega arith) in
+    rw all
+    (record {
+      within = omega (arith, months-run-most cal shoushi-lawful n k);
+      counted = λ i l. omega (arith, run-ends cal shoushi-lawful n k, head-most (n + k) h);
+      told = λ row. rw (at, records-of-run cal shoushi-lawful n k);
+    }))
+    er
+  where
+    nothing : (m : ℕ) → answerSaid r ≡ refused m → Planned n k room start months (refused m)
+    nothing m e =
+        let none : months ≡ 0 = em ∙ ap writtenIn e in
+        rw none (record { within = omega arith; counted = λ i h. omega arith; told = λ row. refl })
 
 -- a year's list is the run of that year
 pub year-of-run : (n : ℕ) (row : List MonthRecord) (r : Answer) (end : List MonthRecord) → RunSays n 1 row r end → YearSays n row r end

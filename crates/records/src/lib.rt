@@ -1,10 +1,11 @@
 // A year's list and a run of years, as month records in a lent row of structs.
-use moons::LAST_LUNATION;
+use measure::LAST_YEAR;
 use rows::Answer;
 ghost use mathlib.Core.Path.{_≡_};
-ghost use Prim.Native.Nat.{suc, _+_, _≤_, _<_};
+ghost use Prim.Native.Nat.{suc, _+_, _≤_};
 ghost use lib.ListN.{length};
 ghost use Rattle.rows.specs.Reply.{answerSaid};
+ghost use Rattle.rows.specs.Row.{rowAfter};
 ghost use Rattle.measure.specs.Units.{lastYear};
 ghost use Rattle.measure.specs.Epoch.{shoushi};
 ghost use Rattle.moons.specs.Lunation.{lastLunation};
@@ -12,7 +13,7 @@ ghost use Rattle.month_law.specs.Calendar.{head, monthsIn};
 ghost use Rattle.edition.specs.Edition.{calendar};
 ghost use Rattle.lists.specs.Records.{recordOf, recordsOf};
 ghost use Rattle.lists.specs.Lists.{runOf, listReply, runReply};
-ghost use Rattle.records.specs.MonthRecords.{recordIn, inRecords, monthsFrom, writtenIn, over, rowAfter};
+ghost use Rattle.records.specs.MonthRecords.{recordIn, inRecords, writtenIn};
 
 pub struct MonthRecord {
     pub first: u64,
@@ -30,31 +31,23 @@ pub fn year_records(n: u64, row: &mut [MonthRecord]) -> Answer
     run_records(n, 1, row)
 }
 
-// The records of so many years from n on, each list from where the one before it ended; how many there are. No years, a first year past
-// the last or a run past it are refused with 1, then a row that is too short with 4.
+// The records of so many years from n on, each list from where the one before it ended, so that they are those of the months from the
+// first head on; how many there are. No years, a first year past the last or a run past it are refused with 1, then a row that is too
+// short with 4.
 pub fn run_records(n: u64, count: u64, row: &mut [MonthRecord]) -> Answer
     ensures { λ r. ⌜ (answerSaid r ≡ runReply shoushi n count (length (now (row .entry))))
         × (now (row .exit) ≡ rowAfter (runReply shoushi n count (length (now (row .entry)))) (inRecords (runOf (calendar shoushi) n count)) (now (row .entry))) ⌝ }
 {
-    let room = row.len();
-    let reply = run_reply(n, count, room);
-    let months = months_in(reply);
-    let start = head_of(n);
-    put_months(start, months, row);
-    reply
-}
-
-// The lists of a run lie end to end, so that its records are those of the months from the first head on.
-fn put_months(l: u64, months: usize, row: &mut [MonthRecord])
-    requires { ⌜ (months ≤ length (now row)) × (0 < months → l + months ≤ suc lastLunation) ⌝ }
-    ensures { λ _. ⌜ now (row .exit) ≡ over (monthsFrom (calendar shoushi) l months) (now (row .entry)) ⌝ }
-{
+    let reply = run_reply(n, count, row.len());
+    let months = written_in(reply);
+    let start = head_for(n);
     let mut i: usize = 0;
     while i < months {
-        let month = record_of(l, i);
+        let month = record_of(start, i);
         row[i] = month;
         i += 1;
     }
+    reply
 }
 
 // The record of the month that is i after month l.
@@ -80,12 +73,12 @@ fn run_reply(n: u64, count: u64, room: usize) -> Answer
 {
     match lists::run_asked(n, count, room as u64) {
         Answer::Refused(k) => Answer::Refused(k),
-        Answer::Number(_) => Answer::Number(head_of(n + count) - head_of(n)),
+        Answer::Number(_) => Answer::Number(head_for(n + count) - head_for(n)),
     }
 }
 
 // How many records a reply tells of: none where it refuses.
-fn months_in(reply: Answer) -> usize
+fn written_in(reply: Answer) -> usize
     ensures { λ r. ⌜ r ≡ writtenIn (answerSaid reply) ⌝ }
 {
     match reply {
@@ -94,13 +87,12 @@ fn months_in(reply: Answer) -> usize
     }
 }
 
-// The head of year n. That of the year after the last is the first month that is not counted.
-fn head_of(n: u64) -> u64
+// The head of year n; 0 stands for that of a year past the one after the last.
+fn head_for(n: u64) -> u64
     ensures { λ r. ⌜ (n ≤ suc lastYear → r ≡ head (calendar shoushi) n) ⌝ }
 {
-    let reply = months::head(n);
-    let Answer::Number(l) = reply else {
-        return LAST_LUNATION + 1;
-    };
-    l
+    if LAST_YEAR + 1 < n {
+        return 0;
+    }
+    months::head_of(n)
 }

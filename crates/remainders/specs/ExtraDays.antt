@@ -5,8 +5,8 @@ use Prim.Native.Nat.{ℕ, _+_, _*_, _-_, _/_}
 use Rattle.rows.specs.Choice.{if_then_else_, _≤?_}
 use Rattle.rows.specs.Reply.{Reply, answer, refused, outside, refuseIf}
 use Rattle.measure.specs.Units.{day, termStep, monthDeficit}
-use Rattle.remainders.specs.declared.Days.{Days}
-use Rattle.remainders.specs.declared.Days.the-variants.{Add, Nothing, Refused}
+use Rattle.remainders.specs.declared.DaysAnswer.{DaysAnswer}
+use Rattle.remainders.specs.declared.DaysAnswer.the-variants.{Add, Nothing, Refused}
 
 -- "none" is an answer like any other
 pub data Found : Type 0 where
@@ -38,7 +38,7 @@ unfoldable pub vanishingReply : ℕ → Reply Found
 vanishingReply r = refuseIf (day ≤? r) outside (answer (vanishingDay r))
 
 -- the paper's reply that each case stands for
-abbrev pub daysSaid : Days → Reply Found
+abbrev pub daysSaid : DaysAnswer → Reply Found
 daysSaid (Add n) = answer (daysOn n)
 daysSaid Nothing = answer none
 daysSaid (Refused k) = refused k

@@ -8,7 +8,7 @@ ghost use mathlib.Core.Path.{_≡_};
 ghost use Rattle.remainders.specs.Hours.{hourReply, hourSaid};
 ghost use Rattle.remainders.specs.ExtraDays.{extraReply, vanishingReply, daysSaid};
 
-pub enum Hour {
+pub enum HourAnswer {
     At { double_hour: u64, ke: u64 },
     Refused(u64),
 }
@@ -16,21 +16,21 @@ pub enum Hour {
 const KE: u64 = 1_200 * FEN;
 
 // The double-hour and the ke of a remainder. A day or more is outside.
-pub fn double_hour(remainder: u64) -> Hour
+pub fn double_hour(remainder: u64) -> HourAnswer
     ensures { λ r. ⌜ hourSaid r ≡ hourReply remainder ⌝ }
 {
     if DAY <= remainder {
-        return Hour::Refused(OUTSIDE);
+        return HourAnswer::Refused(OUTSIDE);
     }
     let twelfths = remainder * 12;
-    Hour::At {
+    HourAnswer::At {
         double_hour: twelfths / DAY,
         ke: twelfths % DAY / KE,
     }
 }
 
 // How many days after its term or its new moon a day falls, if there is one.
-pub enum Days {
+pub enum DaysAnswer {
     Add(u64),
     Nothing,
     Refused(u64),
@@ -43,27 +43,27 @@ const TERM_EXCESS: u64 = TERM_STEP - 15 * DAY;
 const MONTH_DEFICIT: u64 = 30 * DAY - MONTH;
 
 // The extra day of a term with this remainder. A day or more is outside.
-pub fn extra_day(remainder: u64) -> Days
+pub fn extra_day(remainder: u64) -> DaysAnswer
     ensures { λ r. ⌜ daysSaid r ≡ extraReply remainder ⌝ }
 {
     if DAY <= remainder {
-        return Days::Refused(OUTSIDE);
+        return DaysAnswer::Refused(OUTSIDE);
     }
     if remainder < EXTRA_LIMIT {
-        return Days::Nothing;
+        return DaysAnswer::Nothing;
     }
-    Days::Add((TERM_STEP - 15 * remainder) / TERM_EXCESS)
+    DaysAnswer::Add((TERM_STEP - 15 * remainder) / TERM_EXCESS)
 }
 
 // The vanishing day of a mean new moon with this remainder. A day or more is outside.
-pub fn vanishing_day(remainder: u64) -> Days
+pub fn vanishing_day(remainder: u64) -> DaysAnswer
     ensures { λ r. ⌜ daysSaid r ≡ vanishingReply remainder ⌝ }
 {
     if DAY <= remainder {
-        return Days::Refused(OUTSIDE);
+        return DaysAnswer::Refused(OUTSIDE);
     }
     if MONTH_DEFICIT < remainder {
-        return Days::Nothing;
+        return DaysAnswer::Nothing;
     }
-    Days::Add(30 * remainder / MONTH_DEFICIT)
+    DaysAnswer::Add(30 * remainder / MONTH_DEFICIT)
 }

@@ -12,7 +12,7 @@ use Rattle.rows.specs.Reply.{Reply, answer, refused, answerSaid}
 use Rattle.rows.specs.declared.Answer.{Answer}
 use Rattle.lists.specs.Records.{recordWidth}
 use Rattle.words.specs.Ascii.{bytesOf}
-use Rattle.texts.specs.Text.{piece, taken, filled}
+use Rattle.texts.specs.Text.{piece, numbersTaken, filled}
 use Rattle.texts.proofs.TextLaws.{holes, holes-append, filled-append, filled-enough}
 use Rattle.questions.specs.DeskReply.{Few}
 use Rattle.replies.specs.LineText.{blankHoles, numberHoles, numbersText}
@@ -54,7 +54,7 @@ holes-more zero = refl
 holes-more (suc k) = ap (λ (l : List ℕ). bytesOf "%" ++ l) (blank-more k)
 
 number-takes : (i : ℕ) → holes (numberHole i) ≡ 1
-unfolding numberHole holes taken
+unfolding numberHole holes numbersTaken
 number-takes zero = refl
 number-takes (suc i) = refl
 
@@ -83,7 +83,7 @@ some-numbers (n ∷ l) h = refl
 
 -- and the line end
 pub numbers-ended : (k : ℕ) (ns : List ℕ) → 0 < k → k ≤ length ns → filled (numberHoles k) ns ++ (10 ∷ []) ≡ listText (take k ns)
-unfolding numbersText filled piece taken holes
+unfolding numbersText filled piece numbersTaken holes
 numbers-ended k ns some fits =
     let long : length (take k ns) ≡ k = length-take-le k ns fits in
     let few : holes (numberHoles k ++ bytesOf "\n") ≤ k = omega (arith, holes-append (numberHoles k) (bytesOf "\n"), numbers-take k) in
@@ -94,7 +94,7 @@ numbers-ended k ns some fits =
 
 -- so many records
 record-takes : (i : ℕ) → holes (recordHoles i) ≡ recordWidth
-unfolding recordHoles holes taken
+unfolding recordHoles holes numbersTaken
 record-takes zero = refl
 record-takes (suc i) = refl
 
@@ -113,7 +113,7 @@ record-more i ns =
 
 pub records-ended : (k : ℕ) (ns : List ℕ) → recordWidth * k ≤ length ns
     → filled (recordsHoles k) ns ++ (10 ∷ []) ≡ recordsText (take (recordWidth * k) ns)
-unfolding recordsText filled piece taken holes
+unfolding recordsText filled piece numbersTaken holes
 records-ended k ns fits =
     let few : holes (recordsHoles k ++ bytesOf "\n") ≤ recordWidth * k =
     omega (arith, holes-append (recordsHoles k) (bytesOf "\n"), records-take k) in

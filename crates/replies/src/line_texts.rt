@@ -2,8 +2,8 @@
 use measure::Name;
 use months::Month;
 use months::MonthAnswer;
-use remainders::Days;
-use remainders::Hour;
+use remainders::DaysAnswer;
+use remainders::HourAnswer;
 use rows::Answer;
 use signed::SignedAnswer;
 use texts::fill;
@@ -121,25 +121,25 @@ pub(crate) fn put_name(n: Name, row: &mut [u8]) -> usize
     fill(b"% % %\n", &[n.name, n.stem, n.branch], row)
 }
 
-pub(crate) fn put_hour(h: Hour, row: &mut [u8]) -> usize
+pub(crate) fn put_hour(h: HourAnswer, row: &mut [u8]) -> usize
     requires { ⌜ lineRoom ≤ length (now row) ⌝ }
     ensures { λ n. ⌜ n ≡ length (textOf hourText (hourSaid h)) ⌝ }
     ensures { λ _. ⌜ now (row .exit) ≡ over (textOf hourText (hourSaid h)) (now (row .entry)) ⌝ }
 {
     match h {
-        Hour::Refused(k) => put_refusal(k, row),
-        Hour::At { double_hour, ke } => fill(b"% %\n", &[double_hour, ke], row),
+        HourAnswer::Refused(k) => put_refusal(k, row),
+        HourAnswer::At { double_hour, ke } => fill(b"% %\n", &[double_hour, ke], row),
     }
 }
 
-pub(crate) fn put_days(d: Days, row: &mut [u8]) -> usize
+pub(crate) fn put_days(d: DaysAnswer, row: &mut [u8]) -> usize
     requires { ⌜ lineRoom ≤ length (now row) ⌝ }
     ensures { λ n. ⌜ n ≡ length (textOf daysText (daysSaid d)) ⌝ }
     ensures { λ _. ⌜ now (row .exit) ≡ over (textOf daysText (daysSaid d)) (now (row .entry)) ⌝ }
 {
     match d {
-        Days::Refused(k) => put_refusal(k, row),
-        Days::Nothing => fill(b"none\n", &[], row),
-        Days::Add(n) => fill(b"%\n", &[n], row),
+        DaysAnswer::Refused(k) => put_refusal(k, row),
+        DaysAnswer::Nothing => fill(b"none\n", &[], row),
+        DaysAnswer::Add(n) => fill(b"%\n", &[n], row),
     }
 }

@@ -1,5 +1,5 @@
--- Laws of choices: of two numbers one is less or is not, a test passes or fails, and what holds in both cases of a choice holds of
--- it.
+-- Laws of choices: of two numbers one is less or is not, a test passes or fails, and what holds in both cases of a choice, or of a
+-- refusal, holds of it.
 -- Assumes nothing.
 use mathlib.Core.Bool.{Bool, true, false, _&&_, _||_, false≢true}
 use mathlib.Core.Logic.{_⊎_, inl, inr}
@@ -9,6 +9,7 @@ use native.Mathlib.Decide.{decLt}
 use native.Mathlib.Omega.{arith}
 use borrow.Author.Tests.{leb-true, leb-false, ltb-true, ltb-false}
 use Rattle.rows.specs.Choice.{if_then_else_, _≤?_, _<?_}
+use Rattle.rows.specs.Reply.{Reply, refused, refuseIf}
 
 pub lt-or-ge : (a b : ℕ) → (a < b) ⊎ (b ≤ a)
 lt-or-ge a b = elim (decLt a b) [ yes h ↦ inl h | no n ↦ inr (omega arith) ]
@@ -54,3 +55,9 @@ module _ {A : Type 0} (P : A → Type 0) (a b : A) where
 pub if-through : {A B : Type 0} (f : A → B) (t : Bool) (a b : A) → f (if t then a else b) ≡ (if t then f a else f b)
 if-through f true a b = refl
 if-through f false a b = refl
+
+-- what holds of a refusal, and of what follows where its test fails, holds of the reply
+pub refuse-cases : {A : Type 0} (P : Reply A → Type 0) (t : Bool) (k : ℕ) (later : Reply A) → P (refused k) → (t ≡ false → P later)
+    → P (refuseIf t k later)
+refuse-cases P true k later stop go = stop
+refuse-cases P false k later stop go = go refl

@@ -11,6 +11,15 @@ use lib.Seq.{drop-cons, set-at, take-at, drop-at, take-length, drop-length, drop
 use borrow.Rule.Slice.PartMut.{putMid}
 use Rattle.rows.specs.Row.{listed, over}
 
+-- what a row holds, of which a list of no places leaves all
+pub over-is : {A : Type 0} (new row : List A) → over new row ≡ new ++ drop (length new) row
+unfolding over
+over-is new row = refl
+
+pub listed-none : (f : ℕ → ℕ) (i : ℕ) → listed f i 0 ≡ []
+unfolding listed
+listed-none f i = refl
+
 pub length-listed : (f : ℕ → ℕ) (i k : ℕ) → length (listed f i k) ≡ k
 unfolding listed
 length-listed f i zero = refl

@@ -1,31 +1,49 @@
--- Laws of the terms: they rise, none lies before the epoch's solstice, and those of the admitted years are no larger than 10¹⁴ wei.
+-- Laws of the terms: they rise, none lies before the epoch's solstice, those of the admitted years are no larger than 10¹⁴ wei; and the
+-- cases of the reply to their list.
 -- Assumes nothing.
 use mathlib.Core.Bool.{true, false}
 use mathlib.Core.Logic.{_⊎_, inl, inr}
 use mathlib.Core.Path.{_≡_, ap}
-use Prim.Native.Nat.{ℕ, _+_, _≤_, _<_}
+use Prim.Native.Nat.{ℕ, _+_, _*_, _≤_, _<_}
 use native.Mathlib.Omega.{arith}
 use borrow.Author.Tests.{ne-eqb}
-use Rattle.measure.specs.Units.{lastYear}
+use lib.ListN.{length}
+use Rattle.rows.specs.Choice.{_<?_}
+use Rattle.rows.specs.Reply.{Reply, answer, refused, noYear, shortRow}
+use Rattle.rows.proofs.Choice.{refuse-cases}
+use Rattle.rows.proofs.Row.{length-listed}
+use Rattle.measure.specs.Units.{termStep, lastYear}
 use Rattle.measure.specs.Epoch.{Epoch, shoushi}
 use Rattle.seasons.specs.Solstice.{solstice}
-use Rattle.seasons.specs.Terms.{terms, term, earthTerm}
+use Rattle.seasons.specs.Terms.{terms, term, termList, termsReply, earthTerm}
+
+-- a term lies as many steps after the epoch's solstice as terms come before it, 24 a year
+pub term-is : (e : Epoch) (n i : ℕ) → term e n i ≡ e .solstice + (terms * n + i) * termStep
+unfolding term solstice
+term-is e n i = omega arith
 
 pub term-rises : (e : Epoch) (n i : ℕ) → term e n i < term e n (i + 1)
-unfolding term
-term-rises e n i = omega arith
+term-rises e n i = omega (arith, term-is e n i, term-is e n (i + 1))
 
 pub term-zero : (e : Epoch) (n : ℕ) → term e n 0 ≡ solstice e n
 unfolding term
 term-zero e n = omega arith
 
 pub term-least : (e : Epoch) (n i : ℕ) → e .solstice ≤ term e n i
-unfolding term solstice
-term-least e n i = omega arith
+term-least e n i = omega (arith, term-is e n i)
 
 pub term-most : (n i : ℕ) → n ≤ lastYear + 1 → i < terms → term shoushi n i ≤ 100_000_000_000_000
-unfolding term solstice
-term-most n i h k = omega arith
+term-most n i h k = omega (arith, term-is shoushi n i)
+
+-- a year's list: what holds of both refusals and of the answer holds of the reply
+pub terms-cases : (P : Reply ℕ → Type 0) (n room : ℕ) → P (refused noYear) → P (refused shortRow) → P (answer terms) → P (termsReply n room)
+unfolding termsReply
+terms-cases P n room late short all =
+    refuse-cases P (lastYear <? n) noYear _ late λ _. refuse-cases P (room <? terms) shortRow _ short λ _. all
+
+pub terms-length : (e : Epoch) (n : ℕ) → length (termList e n) ≡ terms
+unfolding termList
+terms-length e n = length-listed (term e n) 0 terms
 
 -- the four terms before which earth rules, as a program's cases tell them
 abbrev pub OneOfFour : ℕ → Type 0

@@ -1,7 +1,7 @@
 -- A signed number's integer: what a pair of naturals comes to, for programs that hold one number with a sign.
 -- Assumes nothing.
 use mathlib.Core.Bool.{Bool, true, false, not, cond}
-use mathlib.Core.Path.{_≡_, refl, ap}
+use mathlib.Core.Path.{_≡_, refl, ap, _∙_}
 use Prim.Native.Nat.{ℕ, zero, suc, _+_, _-_, _^_, _≤_, _<_}
 use native.Mathlib.Omega.{arith}
 use lib.Dec.{T, ltb, ltb→lt, nltb→le}
@@ -72,6 +72,9 @@ integer-mag x = is-mag (integer x) x (is-integer x)
 -- 64 bits: a number that they hold is read back off them, and the opposite of a natural as a program takes it
 pub held : (z : ℤ) → mag z < 2 ^ 63 → toZ w64 (ofZ w64 z) ≡ z
 held z h = toZ-ofZ {w = w64} {z = z} (record { sfits = h })
+
+pub held-as : {z w : ℤ} → mag z < 2 ^ 63 → z ≡ w → toZ w64 (ofZ w64 z) ≡ w
+held-as {z} h e = held z h ∙ e
 
 pub opposite : (n : ℕ) → pos 0 -ℤ pos n ≡ negℤ (pos n)
 opposite zero = refl

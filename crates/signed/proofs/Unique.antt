@@ -7,12 +7,7 @@ use Rattle.rows.proofs.Determined.{OneReply, read-back}
 use Rattle.signed.specs.Signed.{signedSaid}
 use Rattle.signed.specs.declared.SignedAnswer.{SignedAnswer}
 use Rattle.signed.specs.declared.SignedAnswer.the-variants.{Number, Refused}
-use Rattle.signed.proofs.ahead.Kinds as ahead
-use Rattle.signed.proofs.ahead.Reads as ahead-reads
-use Rattle.signed.proofs.behind.Kinds as behind
-use Rattle.signed.proofs.behind.Reads as behind-reads
-use Rattle.signed.proofs.magnitude_of.Kinds as magnitude-of
-use Rattle.signed.proofs.magnitude_of.Reads as magnitude-of-reads
+use Rattle.signed.proofs as own
 
 pub signedMeant : Reply ℤ → SignedAnswer
 signedMeant (answer z) = Number z
@@ -26,11 +21,11 @@ signed-back (Refused k) = refl
 pub one-signed : (x y : SignedAnswer) (z : Reply ℤ) → signedSaid x ≡ z → signedSaid y ≡ z → x ≡ y
 one-signed = read-back signedSaid signedMeant signed-back
 
-pub ahead-unique : OneReply ahead.ps ahead.r ahead-reads.Post
+pub ahead-unique : OneReply own.ahead.Kinds.ps own.ahead.Kinds.r own.ahead.Reads.Post
 ahead-unique κs a x y s t p q = p ∙ sym q
 
-pub behind-unique : OneReply behind.ps behind.r behind-reads.Post
+pub behind-unique : OneReply own.behind.Kinds.ps own.behind.Kinds.r own.behind.Reads.Post
 behind-unique κs a x y s t p q = p ∙ sym q
 
-pub magnitude-of-unique : OneReply magnitude-of.ps magnitude-of.r magnitude-of-reads.Post
+pub magnitude-of-unique : OneReply own.magnitude_of.Kinds.ps own.magnitude_of.Kinds.r own.magnitude_of.Reads.Post
 magnitude-of-unique κs a x y s t p q = p ∙ sym q

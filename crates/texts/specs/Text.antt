@@ -31,13 +31,13 @@ hole = 37
 unfoldable pub piece : ℕ → ℕ → List ℕ
 piece b n = if b =? hole then decimal n else b ∷ []
 
-unfoldable pub taken : ℕ → ℕ
-taken b = if b =? hole then 1 else 0
+unfoldable pub numbersTaken : ℕ → ℕ
+numbersTaken b = if b =? hole then 1 else 0
 
 -- a template with its numbers. A hole for which no number is left takes 0, and numbers for which no hole is left are not written
 unfoldable pub filled : List ℕ → List ℕ → List ℕ
 filled [] ns = []
-filled (b ∷ t) ns = piece b (getD ns 0 0) ++ filled t (drop (taken b) ns)
+filled (b ∷ t) ns = piece b (getD ns 0 0) ++ filled t (drop (numbersTaken b) ns)
 
 -- the room that a template asks for
 abbrev pub textRoom : List ℕ → ℕ

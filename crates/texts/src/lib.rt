@@ -6,7 +6,7 @@ ghost use Prim.Native.Nat.{_≤_};
 ghost use lib.ListN.{length, getD};
 ghost use Rattle.rows.specs.Reply.{answerSaid};
 ghost use Rattle.rows.specs.Row.{over, rowAfter};
-ghost use Rattle.texts.specs.Text.{decimal, piece, taken, filled, mostDigits, textRoom, textReply};
+ghost use Rattle.texts.specs.Text.{decimal, piece, numbersTaken, filled, mostDigits, textRoom, textReply};
 
 pub const HOLE: u8 = b'%';
 
@@ -58,7 +58,7 @@ fn put_piece(b: u8, n: u64, row: &mut [u8]) -> usize
 }
 
 fn numbers_taken(b: u8) -> usize
-    ensures { λ r. ⌜ r ≡ taken b ⌝ }
+    ensures { λ r. ⌜ r ≡ numbersTaken b ⌝ }
     ensures { λ r. ⌜ r ≤ 1 ⌝ }
 {
     if b == HOLE { 1 } else { 0 }

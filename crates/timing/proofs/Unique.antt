@@ -3,13 +3,10 @@
 use mathlib.Core.Path.{_∙_, sym}
 use denote.Ref.{now}
 use Rattle.rows.proofs.Determined.{OneReply, OneOutcome}
-use Rattle.timing.proofs.timing_true_moon.Kinds as true-moon
-use Rattle.timing.proofs.timing_true_moon.Reads as true-moon-reads
-use Rattle.timing.proofs.timing_run.Kinds as run
-use Rattle.timing.proofs.timing_run.Reads as run-reads
+use Rattle.timing.proofs as own
 
-pub timing-true-moon-unique : OneReply true-moon.ps true-moon.r true-moon-reads.Post
+pub timing-true-moon-unique : OneReply own.timing_true_moon.Kinds.ps own.timing_true_moon.Kinds.r own.timing_true_moon.Reads.Post
 timing-true-moon-unique κs a x y s t p q = p ∙ sym q
 
-pub timing-run-unique : OneOutcome run.ps run.r run-reads.Post (λ κs s. now (s .0))
+pub timing-run-unique : OneOutcome own.timing_run.Kinds.ps own.timing_run.Kinds.r own.timing_run.Reads.Post (λ κs s. now (s .0))
 timing-run-unique κs a x y s t p q = (p .0 ∙ sym (q .0), p .1 ∙ sym (q .1))

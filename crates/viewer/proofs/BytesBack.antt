@@ -5,7 +5,7 @@ use mathlib.Core.Path.{_≡_, refl, sym, ap₂}
 use Prim.Native.Nat.{ℕ, _+_, _*_, _/_, _%_, _<_}
 use native.Mathlib.Nat.{div-div-eq-div-mul}
 use native.Mathlib.Omega.{arith}
-use Rattle.viewer.specs.Bytes.{lowFirst, bytesOf}
+use Rattle.viewer.specs.Bytes.{lowFirst, lowFirstBytes}
 
 -- the number that four bytes say, low byte first
 abbrev joined : ℕ → ℕ → ℕ → ℕ → ℕ
@@ -38,7 +38,7 @@ unfolding Small
 small-append [] ys h g = g
 small-append (x ∷ xs) ys h g = (h .0, small-append xs ys (h .1) g)
 
-pub bytes-back : (ns : List ℕ) → Small ns → numbersRead (bytesOf ns) ≡ ns
-unfolding numbersRead bytesOf lowFirst Small
+pub bytes-back : (ns : List ℕ) → Small ns → numbersRead (lowFirstBytes ns) ≡ ns
+unfolding numbersRead lowFirstBytes lowFirst Small
 bytes-back [] h = refl
 bytes-back (n ∷ ns) h = ap₂ _∷_ (joined-back n (h .0)) (bytes-back ns (h .1))

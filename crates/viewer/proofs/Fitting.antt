@@ -15,7 +15,7 @@ use Rattle.months.proofs.Reach.{month-held}
 use Rattle.months.proofs.Sizes.{kind-most}
 use Rattle.months.proofs.DayReply.{day-cases}
 use Rattle.months.proofs.Dated.{day-admitted}
-use Rattle.viewer.specs.Told.{Fits}
+use Rattle.viewer.specs.Told.{FitsDay}
 
 abbrev c : Calendar
 c = calendar shoushi
@@ -31,7 +31,7 @@ module _ (d : ℕ) (since : earliest ≤ d) (until : d ≤ latest) where
   listed : InList c n l
   listed = year-listed c shoushi-lawful l
 
-  month-fits : Fits (monthOfDay c d)
+  month-fits : FitsDay (monthOfDay c d)
   unfolding monthOfDay placed
   month-fits =
       let held = month-held d since until in
@@ -51,7 +51,7 @@ unfolding monthOfDay placed
 month-days d = omega (arith, shoushi-lawful .month-least (monthOf c d))
 
 abbrev pub ReplyFits : Reply MonthOfDay → Type 0
-ReplyFits (answer m) = Fits m × (29 ≤ m .length)
+ReplyFits (answer m) = FitsDay m × (29 ≤ m .length)
 ReplyFits (refused k) = (0 < k) × (k < 256)
 
 pub reply-fits : (d : ℕ) → ReplyFits (dayReply shoushi d)

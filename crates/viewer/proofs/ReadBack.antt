@@ -1,7 +1,6 @@
 -- What the viewer is told says the whole reply: months, refusals and records are read back from the structs and the bytes as they were.
 -- So no refusal can be taken for a month, and no place of a number is lost.
 -- Assumes nothing.
-use mathlib.Core.Logic.{⊎-elim}
 use mathlib.Core.Path.{_≡_, refl}
 use Prim.Native.Nat.{ℕ, zero, suc, _+_, _≤_, _<_}
 use native.Mathlib.Omega.{arith}
@@ -10,7 +9,7 @@ use Rattle.rows.specs.Choice.{if_then_else_, _=?_}
 use Rattle.rows.specs.Reply.{Reply, answer, refused}
 use Rattle.measure.specs.Units.{lastYear}
 use Rattle.measure.specs.Epoch.{shoushi}
-use Rattle.rows.proofs.Choice.{lt-or-ge, if-cases}
+use Rattle.rows.proofs.Choice.{if-cases}
 use Rattle.month_law.specs.Calendar.{Calendar, monthsIn, head, leapAt, leapMark}
 use Rattle.edition.specs.Edition.{calendar}
 use Rattle.month_law.proofs.Rising.{rises-weakly}
@@ -18,17 +17,17 @@ use Rattle.month_law.proofs.Months.{first-rises}
 use Rattle.edition.proofs.Edition.{figures, shoushi-lawful}
 use Rattle.months.specs.Kind.{Kind, ordinary, leap, numberIn, markIn}
 use Rattle.months.specs.Month.{MonthOfDay, dayReply}
-use Rattle.lists.specs.Records.{yearRoom, recordAt, recordsOf}
+use Rattle.lists.proofs.Asked.{list-cases}
+use Rattle.lists.specs.Records.{recordAt, recordsOf}
 use Rattle.lists.specs.Lists.{listReply}
 use Rattle.months.proofs.Reach.{list-most}
 use Rattle.months.proofs.Sizes.{number-most}
-use Rattle.viewer.specs.Bytes.{bytesOf}
+use Rattle.viewer.specs.Bytes.{lowFirstBytes}
 use Rattle.viewer.proofs.BytesBack.{numbersRead, Small, small-append, bytes-back}
 use Rattle.viewer.specs.Told.{dayTold, countTold}
 use Rattle.viewer.specs.declared.Day.{Day}
 use Rattle.viewer.specs.declared.Count.{Count}
 use Rattle.viewer.proofs.Fitting.{ReplyFits, reply-fits}
-use Rattle.viewer.proofs.YearReply.{no-year, no-room, listed}
 
 -- what a struct says
 abbrev kindRead : ℕ → ℕ → Kind
@@ -86,12 +85,7 @@ month-has-days d = days-told (dayReply shoushi d) (reply-fits d)
 -- how many records there are, or why none
 pub count-back : (n room : ℕ) → countRead (countTold (listReply shoushi n room)) ≡ listReply shoushi n room
 unfolding countRead
-count-back n room =
-    ⊎-elim (λ (h : lastYear < n). rw (no-year n room h))
-    (λ (h : n ≤ lastYear).
-    ⊎-elim (λ (g : room < yearRoom). rw (no-room n room h g)) (λ (g : yearRoom ≤ room). rw (listed n room h g))
-    (lt-or-ge room yearRoom))
-    (lt-or-ge lastYear n)
+count-back n room = list-cases (λ (r : Reply ℕ). countRead (countTold r) ≡ r) shoushi n room refl refl λ _ _. refl
 
 abbrev c : Calendar
 c = calendar shoushi
@@ -118,5 +112,5 @@ module _ (n : ℕ) (year : n ≤ lastYear) where
       small-append (recordsOf c n k) (recordAt c n k) (records-small k (omega arith)) (record-small k (omega arith))
 
   -- the records of a year
-  pub records-back : numbersRead (bytesOf (recordsOf c n (monthsIn c n))) ≡ recordsOf c n (monthsIn c n)
+  pub records-back : numbersRead (lowFirstBytes (recordsOf c n (monthsIn c n))) ≡ recordsOf c n (monthsIn c n)
   records-back = bytes-back (recordsOf c n (monthsIn c n)) (records-small (monthsIn c n) (omega arith))

@@ -7,7 +7,6 @@ use Prim.Native.Nat.{ℕ, _*_, _≤_, _<_}
 use native.Mathlib.Omega.{arith}
 use lib.ListN.{length, take, drop}
 use lib.Seq.{take-at}
-use borrow.Author.Tests.{lt-ltb, le-ltb}
 use Rattle.rows.specs.Reply.{answer, refused, noYear, shortRow, answerSaid}
 use Rattle.rows.specs.Row.{over, rowAfter}
 use Rattle.measure.specs.Units.{lastYear}
@@ -21,24 +20,11 @@ use Rattle.month_law.proofs.Lists.{months-in-most}
 use Rattle.edition.proofs.Edition.{shoushi-lawful}
 use Rattle.lists.specs.Records.{recordWidth, yearRoom, recordsOf}
 use Rattle.lists.specs.Lists.{listReply}
+use Rattle.lists.proofs.Asked.{list-late, list-short, list-answered}
 use Rattle.lists.proofs.RecordLaws.{length-records}
 
 abbrev c : Calendar
 c = calendar shoushi
-
--- the three replies that there are
-module _ (n room : ℕ) where
-  pub no-year : lastYear < n → listReply shoushi n room ≡ refused noYear
-  unfolding listReply
-  no-year h = rw (lt-ltb lastYear n h)
-
-  pub no-room : n ≤ lastYear → room < yearRoom → listReply shoushi n room ≡ refused shortRow
-  unfolding listReply
-  no-room h g = rw (le-ltb lastYear n h, lt-ltb room yearRoom g)
-
-  pub listed : n ≤ lastYear → yearRoom ≤ room → listReply shoushi n room ≡ answer (monthsIn c n)
-  unfolding listReply
-  listed h g = rw (le-ltb lastYear n h, le-ltb room yearRoom g)
 
 -- where the row with room got a number
 module _ (n k : ℕ) (got : Answer) (ensured : answerSaid got ≡ listReply shoushi n yearRoom) (case : got ≡ Number k) where
@@ -48,21 +34,21 @@ module _ (n k : ℕ) (got : Answer) (ensured : answerSaid got ≡ listReply shou
   admitted : n ≤ lastYear
   admitted =
       ⊎-elim
-      (λ (h : lastYear < n). let never : _≡_ {A = ℕ} 0 1 = cc (said, no-year n yearRoom h) in omega arith)
+      (λ (h : lastYear < n). let never : _≡_ {A = ℕ} 0 1 = cc (said, list-late shoushi n yearRoom h) in omega arith)
       (λ (h : n ≤ lastYear). h)
       (lt-or-ge lastYear n)
 
   counted : k ≡ monthsIn c n
-  counted = cc (said, listed n yearRoom admitted (omega arith))
+  counted = cc (said, list-answered shoushi n yearRoom admitted (omega arith))
 
   pub count-most : k ≤ yearRoom
   count-most = omega (arith, counted, months-in-most c shoushi-lawful n)
 
   pub short-refused : (room : ℕ) → room < yearRoom → listReply shoushi n room ≡ refused shortRow
-  short-refused room h = no-room n room admitted h
+  short-refused room h = list-short shoushi n room admitted h
 
   pub long-answered : (room : ℕ) → yearRoom ≤ room → listReply shoushi n room ≡ answer k
-  long-answered room h = listed n room admitted h ∙ ap answer (sym counted)
+  long-answered room h = list-answered shoushi n room admitted h ∙ ap answer (sym counted)
 
   -- the numbers that it was given
   pub numbers-given : (row now : List ℕ) → now ≡ rowAfter (listReply shoushi n yearRoom) (recordsOf c n (monthsIn c n)) row
@@ -82,11 +68,11 @@ module _ (n k : ℕ) (got : Answer) (ensured : answerSaid got ≡ listReply shou
   late : lastYear < n
   late =
       ⊎-elim (λ (h : lastYear < n). h)
-      (λ (h : n ≤ lastYear). let never : _≡_ {A = ℕ} 0 1 = cc (none, listed n yearRoom h (omega arith)) in omega arith)
+      (λ (h : n ≤ lastYear). let never : _≡_ {A = ℕ} 0 1 = cc (none, list-answered shoushi n yearRoom h (omega arith)) in omega arith)
       (lt-or-ge lastYear n)
 
   pub year-refused : k ≡ noYear
-  year-refused = cc (none, no-year n yearRoom late)
+  year-refused = cc (none, list-late shoushi n yearRoom late)
 
   pub refused-in-any : (room : ℕ) → listReply shoushi n room ≡ refused k
-  refused-in-any room = no-year n room late ∙ ap refused (sym year-refused)
+  refused-in-any room = list-late shoushi n room late ∙ ap refused (sym year-refused)

@@ -10,6 +10,6 @@ unfoldable pub lowFirst : ℕ → List ℕ
 lowFirst n = n % 256 ∷ n / 256 % 256 ∷ n / 65536 % 256 ∷ n / 16777216 % 256 ∷ []
 
 -- the bytes of a row of numbers
-unfoldable pub bytesOf : List ℕ → List ℕ
-bytesOf [] = []
-bytesOf (n ∷ ns) = lowFirst n ++ bytesOf ns
+unfoldable pub lowFirstBytes : List ℕ → List ℕ
+lowFirstBytes [] = []
+lowFirstBytes (n ∷ ns) = lowFirst n ++ lowFirstBytes ns

@@ -28,7 +28,7 @@ countTold (answer n) = record { refused = 0; records = n }
 countTold (refused k) = record { refused = k; records = 0 }
 
 -- a month whose numbers the struct's fields can hold
-pub record Fits (m : MonthOfDay) : Type 0 where
+pub record FitsDay (m : MonthOfDay) : Type 0 where
   pub first : m .first < 4_294_967_296
   pub year : m .year < 65_536
   pub place : m .place < 256

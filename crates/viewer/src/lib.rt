@@ -20,9 +20,9 @@ ghost use Rattle.edition.specs.Edition.{calendar};
 ghost use Rattle.months.specs.Month.{dayReply, monthSaid};
 ghost use Rattle.lists.specs.Records.{recordsOf};
 ghost use Rattle.lists.specs.Lists.{listReply};
-ghost use Rattle.viewer.specs.Bytes.{bytesOf};
+ghost use Rattle.viewer.specs.Bytes.{lowFirstBytes};
 ghost use Rattle.viewer.specs.Room.{roomIn};
-ghost use Rattle.viewer.specs.Told.{Fits, dayTold, countTold};
+ghost use Rattle.viewer.specs.Told.{FitsDay, dayTold, countTold};
 
 // A reply about a day. In a month, refused is 0; a refusal has its number there and 0 in every other field. No month has length 0.
 #[repr(C)]
@@ -60,7 +60,7 @@ pub extern "C" fn lengadriu_day(d: u64) -> Day
 #[no_mangle]
 pub extern "C" fn lengadriu_year(row: &mut [u8], n: u64) -> Count
     ensures { λ r. ⌜ r ≡ countTold (listReply shoushi n (roomIn (now (row .entry)))) ⌝ }
-    ensures { λ _. ⌜ now (row .exit) ≡ rowAfter (listReply shoushi n (roomIn (now (row .entry)))) (bytesOf (recordsOf (calendar shoushi) n (monthsIn (calendar shoushi) n))) (now (row .entry)) ⌝ }
+    ensures { λ _. ⌜ now (row .exit) ≡ rowAfter (listReply shoushi n (roomIn (now (row .entry)))) (lowFirstBytes (recordsOf (calendar shoushi) n (monthsIn (calendar shoushi) n))) (now (row .entry)) ⌝ }
 {
     let mut numbers = [0u64; YEAR_NUMBERS];
     match lists::list(n, &mut numbers) {
@@ -81,7 +81,7 @@ pub extern "C" fn lengadriu_year(row: &mut [u8], n: u64) -> Count
 const RECORD_BYTES: usize = RECORD_WIDTH * NUMBER_BYTES;
 
 fn month_told(m: Month) -> Day
-    requires { ⌜ Fits (monthSaid m) ⌝ }
+    requires { ⌜ FitsDay (monthSaid m) ⌝ }
     ensures { λ r. ⌜ r ≡ dayTold (answer (monthSaid m)) ⌝ }
 {
     let kind = m.kind;

@@ -3,25 +3,25 @@ ghost use mathlib.Core.Path.{_≡_};
 ghost use Prim.Native.Nat.{_*_, _≤_};
 ghost use lib.ListN.{length, take};
 ghost use Rattle.rows.specs.Row.{over};
-ghost use Rattle.viewer.specs.Bytes.{numberBytes, lowFirst, bytesOf};
+ghost use Rattle.viewer.specs.Bytes.{numberBytes, lowFirst, lowFirstBytes};
 
 pub const NUMBER_BYTES: usize = 4;
 
 // The first k numbers as bytes, from the row's start.
 pub fn put_numbers(numbers: &[u64], k: usize, row: &mut [u8])
     requires { ⌜ (k ≤ length (now numbers)) × (numberBytes * k ≤ length (now row)) ⌝ }
-    ensures { λ _. ⌜ now (row .exit) ≡ over (bytesOf (take k (now (numbers .entry)))) (now (row .entry)) ⌝ }
+    ensures { λ _. ⌜ now (row .exit) ≡ over (lowFirstBytes (take k (now (numbers .entry)))) (now (row .entry)) ⌝ }
 {
     let mut i: usize = 0;
     while i < k {
         let used = i * NUMBER_BYTES;
-        put_number(numbers[i], &mut row[used..]);
+        put_low_first(numbers[i], &mut row[used..]);
         i += 1;
     }
 }
 
 // A number of 32 bits, low byte first, at the row's start.
-fn put_number(n: u64, row: &mut [u8])
+fn put_low_first(n: u64, row: &mut [u8])
     requires { ⌜ numberBytes ≤ length (now row) ⌝ }
     ensures { λ _. ⌜ now (row .exit) ≡ over (lowFirst n) (now (row .entry)) ⌝ }
 {

@@ -1,7 +1,6 @@
 pub mod Digits
 pub mod Examples
 pub mod Chosen
-pub mod Line
 pub mod Parts
 pub mod Same
 pub mod Within

@@ -18,8 +18,8 @@ abbrev μ-loop : tie.MeasureT-loop
 large-buffer-requires : tie.Need-large-buffer-requires Inv-loop μ-loop
 large-buffer-requires c κs = tt
 
-fill-requires : tie.Need-fill-requires Inv-loop μ-loop
-fill-requires c κs = tt
+read-block-requires : tie.Need-read-block-requires Inv-loop μ-loop
+read-block-requires c κs = tt
 
 write-all-requires : tie.Need-write-all-requires Inv-loop μ-loop
 write-all-requires c κs = tt
@@ -29,15 +29,15 @@ returns c = tt
 
 array-share-prefix-block : tie.Need-array-share-prefix-block Inv-loop μ-loop
 array-share-prefix-block c =
-    let filled = c .before .before .before .before in
-    let fits = rw (c .before .read .given .1) at (filled .fill .ensures) in
+    let reading = c .before .before .before .before in
+    let fits = rw (c .before .read .given .1) at (reading .read-block .ensures) in
     omega (arith, fits)
 
 slice-aggregate-answer-read : tie.Need-slice-aggregate-answer-read Inv-loop μ-loop
 slice-aggregate-answer-read c =
-    let filled = c .before .before .before .before .before in
-    let fits = rw (c .before .before .read .given .1) at (filled .fill .ensures) in
-    sym (length-take-le _ _ (omega (arith, fits, filled .fill .kept .0)))
+    let reading = c .before .before .before .before .before in
+    let fits = rw (c .before .before .read .given .1) at (reading .read-block .ensures) in
+    sym (length-take-le _ _ (omega (arith, fits, reading .read-block .kept .0)))
 
 returns-2 : tie.Need-returns-2 Inv-loop μ-loop
 returns-2 c = tt
@@ -54,7 +54,7 @@ returns-3 c = tt
 pub answer-lines-spec : {M : Type 1} → statement M
 answer-lines-spec =
     tie.close
-    (tie.spec Inv-loop μ-loop large-buffer-requires (λ c. omega arith) (λ c. omega arith) fill-requires (search needs)
+    (tie.spec Inv-loop μ-loop large-buffer-requires (λ c. omega arith) (λ c. omega arith) read-block-requires (search needs)
     (search needs) (search needs) write-all-requires (λ c. omega arith) (λ c. omega arith) returns array-share-prefix-block
     slice-aggregate-answer-read (λ c κs. omega arith) (search needs) (λ c. omega arith) (λ c. omega arith) returns-2
     (λ c. omega arith) (λ c. omega arith) loop-again (λ c. omega arith) (λ c. omega arith) returns-3)

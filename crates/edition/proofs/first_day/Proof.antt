@@ -6,10 +6,9 @@ use Rattle.edition.specs.Edition.{firstDay}
 use Rattle.edition.proofs.first_day.Statement.{statement}
 use Rattle.edition.proofs.first_day.Tie as tie
 
-returns : tie.Need-returns
-unfolding firstDay
-returns c = c .day-of .ensures ∙ ap dayOf (c .before .true-time .ensures)
-
 pub first-day-spec : {M : Type 1} → statement M
+unfolding firstDay
 first-day-spec =
-    tie.close (tie.spec (search needs) (search needs) returns)
+    tie.close
+    (tie.spec (search needs) (search needs)
+    (λ c. c .day-of .ensures ∙ ap dayOf (c .before .true-time .ensures)))

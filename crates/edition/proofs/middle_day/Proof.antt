@@ -7,9 +7,8 @@ use Rattle.edition.proofs.Edition.{middle-day}
 use Rattle.edition.proofs.middle_day.Statement.{statement}
 use Rattle.edition.proofs.middle_day.Tie as tie
 
-returns : tie.Need-returns
-returns c = c .day-of .ensures ∙ sym (middle-day shoushi (c .before .args .j))
-
 pub middle-day-spec : {M : Type 1} → statement M
 middle-day-spec =
-    tie.close (tie.spec (search needs) (search needs) (search needs) returns)
+    tie.close
+    (tie.spec (search needs) (search needs) (search needs)
+    (λ c. c .day-of .ensures ∙ sym (middle-day shoushi (c .before .args .j))))

@@ -31,14 +31,14 @@ loop-holds c = (omega arith, refl, refl, refl)
 line-len-requires : tie.Need-line-len-requires Inv-loop μ-loop
 line-len-requires c κs = tt
 
-slice-aggregate-put-reply : tie.Need-slice-aggregate-put-reply Inv-loop μ-loop
-slice-aggregate-put-reply c =
+slice-aggregate-put-reply-line : tie.Need-slice-aggregate-put-reply-line Inv-loop μ-loop
+slice-aggregate-put-reply-line c =
     let left = now (c .before .before .before .loop .left) in
     let h : c .before .line-len .result ≤ length left = omega (arith, length-most left) in
     sym (length-take-le _ left h)
 
-put-reply-requires : tie.Need-put-reply-requires Inv-loop μ-loop
-put-reply-requires c κs =
+put-reply-line-requires : tie.Need-put-reply-line-requires Inv-loop μ-loop
+put-reply-line-requires c κs =
     let line = c .before .before in
     let left = now (line .before .before .loop .left) in
     let room = room-left shoushi left (line .line-len .result) (line .line-len .ensures) (omega arith) in
@@ -51,7 +51,7 @@ add-used c =
     omega (
       arith,
       room-left shoushi left (line .line-len .result) (line .line-len .ensures) (omega arith),
-      c .before .before .put-reply .ensures .0,
+      c .before .before .put-reply-line .ensures .0,
     )
 
 rest-requires : tie.Need-rest-requires Inv-loop μ-loop
@@ -71,11 +71,11 @@ loop-again c =
     let left = now (at .loop .left) in
     let some : 0 < length left = omega arith in
     let e =
-    turn shoushi (now (a .input)) left (now (c .rest .result)) (now (a .out)) (at .loop .out) (put .put-reply .last .1 .0) (at .loop .used)
-    (line .line-len .result) (put .put-reply .result) (omega arith) (at .loop .inv .2) (at .loop .inv .3) some (line .line-len .ensures)
-    (put .put-reply .ensures .0) (put .put-reply .ensures .1) (c .rest .ensures) in (
-      omega (arith, room-left shoushi left (line .line-len .result) (line .line-len .ensures) some, put .put-reply .ensures .0, ap length (c .rest .ensures)),
-      same-len-mid {X = ℕ} (at .loop .used) (length (at .loop .out) - at .loop .used) (at .loop .out) (put .put-reply .last .1 .0) (put .put-reply .kept .1 .0) ∙ at .loop .inv .1,
+    turn shoushi (now (a .input)) left (now (c .rest .result)) (now (a .out)) (at .loop .out) (put .put-reply-line .last .1 .0) (at .loop .used)
+    (line .line-len .result) (put .put-reply-line .result) (omega arith) (at .loop .inv .2) (at .loop .inv .3) some (line .line-len .ensures)
+    (put .put-reply-line .ensures .0) (put .put-reply-line .ensures .1) (c .rest .ensures) in (
+      omega (arith, room-left shoushi left (line .line-len .result) (line .line-len .ensures) some, put .put-reply-line .ensures .0, ap length (c .rest .ensures)),
+      same-len-mid {X = ℕ} (at .loop .used) (length (at .loop .out) - at .loop .used) (at .loop .out) (put .put-reply-line .last .1 .0) (put .put-reply-line .kept .1 .0) ∙ at .loop .inv .1,
       e .0,
       e .1,
     )
@@ -96,5 +96,5 @@ returns c =
 pub write-replies-spec : {M : Type 1} → statement M
 write-replies-spec =
     tie.close
-    (tie.spec Inv-loop μ-loop loop-holds line-len-requires slice-aggregate-put-reply (λ c. omega arith) (λ c. omega arith)
-    (λ c. omega arith) put-reply-requires add-used rest-requires loop-less loop-again same-length returns)
+    (tie.spec Inv-loop μ-loop loop-holds line-len-requires slice-aggregate-put-reply-line (λ c. omega arith) (λ c. omega arith)
+    (λ c. omega arith) put-reply-line-requires add-used rest-requires loop-less loop-again same-length returns)

@@ -12,13 +12,13 @@ use Rattle.month_lines.specs.declared.Read.the-variants.{Last, Part}
 use Rattle.month_lines.proofs.answer_read.Statement.{statement}
 use Rattle.month_lines.proofs.answer_read.Tie as tie
 
-slice-aggregate-answer-lines : tie.Need-slice-aggregate-answer-lines
-slice-aggregate-answer-lines c =
+slice-aggregate-answer-whole-lines : tie.Need-slice-aggregate-answer-whole-lines
+slice-aggregate-answer-whole-lines c =
     let a = c .before .before .before .before .args in
     sym (length-take-le (a .have) (now (a .buf)) (omega arith))
 
-answer-lines-requires : tie.Need-answer-lines-requires
-answer-lines-requires c κs =
+answer-whole-lines-requires : tie.Need-answer-whole-lines-requires
+answer-whole-lines-requires c κs =
     let a = c .before .before .before .before .before .args in
     omega (arith, length-take-le (a .have) (now (a .buf)) (omega arith))
 
@@ -29,8 +29,8 @@ returns c =
     let told = c .before .before in
     let a = told .before .before .before .before .before .before .args in
     let none : length (take (a .have) (now (a .buf))) ≡ a .kept = length-take-le (a .have) (now (a .buf)) (omega arith) ∙ omega arith in (
-      simp (eq-eqb _ _ none) (ap Last (told .answer-lines .ensures .0)),
-      (simp (eq-eqb _ _ none) (told .answer-lines .ensures .1), simp (eq-eqb _ _ none)),
+      simp (eq-eqb _ _ none) (ap Last (told .answer-whole-lines .ensures .0)),
+      (simp (eq-eqb _ _ none) (told .answer-whole-lines .ensures .1), simp (eq-eqb _ _ none)),
     )
 
 returns-2 : tie.Need-returns-2
@@ -47,5 +47,5 @@ returns-2 c =
 pub answer-read-spec : {M : Type 1} → statement M
 answer-read-spec =
     tie.close
-    (tie.spec (search needs) slice-aggregate-answer-lines answer-lines-requires (search needs) (search needs) returns
+    (tie.spec (search needs) slice-aggregate-answer-whole-lines answer-whole-lines-requires (search needs) (search needs) returns
     (search needs) (search needs) (search needs) returns-2)

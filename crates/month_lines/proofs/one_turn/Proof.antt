@@ -18,14 +18,14 @@ within c =
 
 add-answer-read : tie.Need-add-answer-read
 add-answer-read c =
-    let filled = c .before .before .before .before .before .before in
-    let fits = rw (c .before .before .more .given .1) at (filled .fill .ensures .0) in
+    let reading = c .before .before .before .before .before .before in
+    let fits = rw (c .before .before .more .given .1) at (reading .read-more .ensures .0) in
     omega (arith, fits)
 
 answer-read-requires : tie.Need-answer-read-requires
 answer-read-requires c κs =
-    let filled = c .before .before .before .before .before .before .before in
-    let fits = rw (c .before .before .before .more .given .1) at (filled .fill .ensures .0) in
+    let reading = c .before .before .before .before .before .before .before in
+    let fits = rw (c .before .before .before .more .given .1) at (reading .read-more .ensures .0) in
     omega (arith, fits)
 
 slice-reshare-prefix-write-out : tie.Need-slice-reshare-prefix-write-out
@@ -37,8 +37,8 @@ slice-aggregate-write-out c = sym (length-take-le _ _ (within (c .before)))
 returns-2 : tie.Need-returns-2
 returns-2 c =
     let read = c .before .before .before .before .before .before .before .before in
-    let filled = read .before .before .before .before .before .before .before .before in
-    turn-left _ _ _ _ _ _ _ _ _ (c .turn-after .ensures) refl (filled .fill .ensures .1) (read .answer-read .ensures .0)
+    let reading = read .before .before .before .before .before .before .before .before in
+    turn-left _ _ _ _ _ _ _ _ _ (c .turn-after .ensures) refl (reading .read-more .ensures .1) (read .answer-read .ensures .0)
     (read .answer-read .ensures .1 .1)
 
 pub one-turn-spec : {M : Type 1} → statement M

@@ -5,14 +5,11 @@ use Rattle.months.specs.Head.{headReply}
 use Rattle.months.proofs.head.Statement.{statement}
 use Rattle.months.proofs.head.Tie as tie
 
-returns : tie.Need-returns
-unfolding headReply
-returns c = simp (lt-ltb _ _ (c .if1 .taken))
-
-returns-2 : tie.Need-returns-2
-unfolding headReply
-returns-2 c = simp (le-ltb _ _ (c .before .if1 .left), c .head-of .ensures)
-
 pub head-spec : {M : Type 1} → statement M
+unfolding headReply
 head-spec =
-    tie.close (tie.spec returns (search needs) returns-2)
+    tie.close
+    (tie.spec
+    (λ c. simp (lt-ltb _ _ (c .if1 .taken)))
+    (search needs)
+    (λ c. simp (le-ltb _ _ (c .before .if1 .left), c .head-of .ensures)))

@@ -5,9 +5,6 @@ use Rattle.months.specs.declared.Span.{Span}
 use Rattle.months.proofs.head_of.Statement.{statement}
 use Rattle.months.proofs.head_of.Tie as tie
 
-returns : tie.Need-returns
-returns c = ap (λ (s : Span). s .lunation) (c .head-span .ensures)
-
 pub head-of-spec : {M : Type 1} → statement M
 head-of-spec =
-    tie.close (tie.spec (search needs) returns)
+    tie.close (tie.spec (search needs) (λ c. ap (λ (s : Span). s .lunation) (c .head-span .ensures)))

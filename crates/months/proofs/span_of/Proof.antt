@@ -29,58 +29,33 @@ not-first d first h e k = go (meanOf d) e
     go zero e = absurd (omega (arith, figures))
     go (suc l) e = omega arith
 
-sub-t8 : tie.Need-sub-t8
-sub-t8 c = not-first _ _ (c .before .before .pre .0) (c .before .first-day .ensures) (c .if1 .taken)
-
-sub-first-day : tie.Need-sub-first-day
-sub-first-day c = not-first _ _ (c .before .before .pre .0) (c .before .first-day .ensures) (c .if1 .taken)
-
 returns : tie.Need-returns
 returns c =
     let start = c .before .before .before in
-    let d = start .args .d in
+    let l = meanOf (start .args .d) in
     let first = c .before .before .first-day in
-    let one : 1 ≤ meanOf d = not-first d (first .result) (start .pre .0) (first .ensures) (c .before .if1 .taken) in
-    let back : suc (meanOf d - 1) ≡ meanOf d = omega arith in
-    let next : first .result ≡ firstDay shoushi (suc (meanOf d - 1)) = first .ensures ∙ ap (firstDay shoushi) (sym back) in
-    span-is d (meanOf d - 1) (c .first-day2 .result) (first .result)
-    (record {
-      since = begun-before d (meanOf d) (mean-before d (start .pre .0)) (meanOf d - 1) back;
-      until = omega (arith, next, c .before .if1 .taken);
-    })
-    (c .first-day2 .ensures) next
+    let one : 1 ≤ l = not-first _ _ (start .pre .0) (first .ensures) (c .before .if1 .taken) in
+    let back : suc (l - 1) ≡ l = omega arith in
+    span-is _ _ _ _ (c .first-day2 .ensures) (first .ensures ∙ ap (firstDay shoushi) (sym back))
+    (omega (arith, c .first-day2 .ensures, begun-before _ l (mean-before _ (start .pre .0)) (l - 1) back)) (c .before .if1 .taken)
 
 returns-2 : tie.Need-returns-2
 returns-2 c =
-    let d = c .before .before .before .before .args .d in
-    let first = c .before .before .before .first-day in
-    let next = c .before .first-day3 in
-    let after : next .result ≡ firstDay shoushi (suc (meanOf d)) = next .ensures ∙ ap (firstDay shoushi) (add-one (meanOf d)) in
-    span-is d (meanOf d) (first .result) (next .result)
-    (record {
-      since = omega (arith, first .ensures, c .before .before .if1 .left);
-      until = omega (arith, after, c .if2 .taken);
-    })
-    (first .ensures) after
+    span-is _ _ _ _ (c .before .before .before .first-day .ensures) (c .before .first-day3 .ensures ∙ ap (firstDay shoushi) (add-one _))
+    (c .before .before .if1 .left) (c .if2 .taken)
 
 returns-3 : tie.Need-returns-3
 returns-3 c =
     let start = c .before .before .before .before .before in
-    let d = start .args .d in
-    let first = c .before .before .first-day3 in
-    let next = c .first-day4 in
-    let two : meanOf d + 2 ≡ suc (meanOf d + 1) = omega arith in
-    let after : next .result ≡ firstDay shoushi (suc (meanOf d + 1)) = next .ensures ∙ ap (firstDay shoushi) two in
-    span-is d (meanOf d + 1) (first .result) (next .result)
-    (record {
-      since = omega (arith, first .ensures, c .before .if2 .left);
-      until =
-          omega (arith, over-after d (meanOf d) (mean-before d (start .pre .0)), ap (firstDay shoushi) two);
-    })
-    (first .ensures) after
+    let l = meanOf (start .args .d) in
+    let two : l + 2 ≡ suc (l + 1) = omega arith in
+    span-is _ _ _ _ (c .before .before .first-day3 .ensures) (c .first-day4 .ensures ∙ ap (firstDay shoushi) two)
+    (c .before .if2 .left) (omega (arith, c .first-day4 .ensures, over-after _ l (mean-before _ (start .pre .0))))
 
 pub span-of-spec : {M : Type 1} → statement M
 span-of-spec =
     tie.close
-    (tie.spec (search needs) (search needs) (search needs) sub-t8 sub-first-day (search needs) returns (search needs)
-    (search needs) returns-2 (search needs) (search needs) (search needs) returns-3)
+    (tie.spec (search needs) (search needs) (search needs)
+    (λ c. not-first _ _ (c .before .before .pre .0) (c .before .first-day .ensures) (c .if1 .taken))
+    (λ c. not-first _ _ (c .before .before .pre .0) (c .before .first-day .ensures) (c .if1 .taken))
+    (search needs) returns (search needs) (search needs) returns-2 (search needs) (search needs) (search needs) returns-3)

@@ -5,10 +5,7 @@ use Rattle.moons.specs.Lunation.{anomaly}
 use Rattle.moons.proofs.anomaly.Statement.{statement}
 use Rattle.moons.proofs.anomaly.Tie as tie
 
-returns : tie.Need-returns
-unfolding anomaly
-returns c = refl
-
 pub anomaly-spec : {M : Type 1} → statement M
+unfolding anomaly
 anomaly-spec =
-    tie.close (tie.spec (search needs) (search needs) (search needs) (search needs) returns)
+    tie.close (tie.spec (search needs) (search needs) (search needs) (search needs) (λ c. refl))

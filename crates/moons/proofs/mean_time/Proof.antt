@@ -5,10 +5,7 @@ use Rattle.moons.specs.Lunation.{mean}
 use Rattle.moons.proofs.mean_time.Statement.{statement}
 use Rattle.moons.proofs.mean_time.Tie as tie
 
-returns : tie.Need-returns
-unfolding mean
-returns c = refl
-
 pub mean-time-spec : {M : Type 1} → statement M
+unfolding mean
 mean-time-spec =
-    tie.close (tie.spec (search needs) (search needs) (search needs) (search needs) returns)
+    tie.close (tie.spec (search needs) (search needs) (search needs) (search needs) (λ c. refl))

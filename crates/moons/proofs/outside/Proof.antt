@@ -3,11 +3,9 @@ use borrow.Author.Tests.{lt-ltb, le-ltb}
 use Rattle.moons.proofs.outside.Statement.{statement}
 use Rattle.moons.proofs.outside.Tie as tie
 
-returns : tie.Need-returns
-returns c = simp (lt-ltb _ _ (c .if1 .taken))
-
-returns-2 : tie.Need-returns-2
-returns-2 c = simp (le-ltb _ _ (c .if1 .left))
-
 pub outside-spec : {M : Type 1} → statement M
-outside-spec = tie.close (tie.spec returns returns-2)
+outside-spec =
+    tie.close
+    (tie.spec
+    (λ c. simp (lt-ltb _ _ (c .if1 .taken)))
+    (λ c. simp (le-ltb _ _ (c .if1 .left))))

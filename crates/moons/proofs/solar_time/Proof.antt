@@ -5,10 +5,7 @@ use Rattle.moons.specs.Lunation.{solarTime}
 use Rattle.moons.proofs.solar_time.Statement.{statement}
 use Rattle.moons.proofs.solar_time.Tie as tie
 
-returns : tie.Need-returns
-unfolding solarTime
-returns c = refl
-
 pub solar-time-spec : {M : Type 1} → statement M
+unfolding solarTime
 solar-time-spec =
-    tie.close (tie.spec (search needs) (search needs) (search needs) (search needs) returns)
+    tie.close (tie.spec (search needs) (search needs) (search needs) (search needs) (λ c. refl))

@@ -5,12 +5,12 @@ use native.Mathlib.Omega.{arith}
 use borrow.Author.Needs.{needs}
 use Rattle.rows.specs.Reply.{answer}
 use Rattle.measure.specs.Epoch.{shoushi}
-use Rattle.month_law.specs.Calendar.{Calendar, head}
+use Rattle.month_law.specs.Calendar.{Calendar}
 use Rattle.edition.specs.Edition.{calendar}
 use Rattle.edition.proofs.Edition.{shoushi-lawful}
 use Rattle.lists.specs.Lists.{runReply, monthsInRun}
 use Rattle.lists.proofs.RunLaws.{run-ends}
-use Rattle.lists.proofs.Asked.{Admitted, said-as, run-refused, run-admitted}
+use Rattle.lists.proofs.Asked.{Admitted, said-as, run-refused, run-admitted, run-answered}
 use Rattle.records.proofs.run_reply.Statement.{statement}
 use Rattle.records.proofs.run_reply.Tie as tie
 
@@ -26,21 +26,17 @@ admitted c =
     (said-as (at .run-asked .result) _ (at .run-asked .ensures) (c .enum-told .given .1))
 
 -- and their months lie between the two heads
-module _ (c : tie.After-head-of2) where
-  counted : let a = c .before .before .before .before .before .args in
-      c .head-of2 .result + monthsInRun cal (a .n) (a .count) ≡ c .before .head-of .result
-  counted =
-      let a = c .before .before .before .before .before .args in
-      let ok = admitted (c .before .before) in
-      let end : c .before .head-of .result ≡ head cal (a .n + a .count) = c .before .head-of .ensures (ok .within) in
-      let start : c .head-of2 .result ≡ head cal (a .n) = c .head-of2 .ensures (omega (arith, ok .within)) in
-      rw (start, end) (run-ends cal shoushi-lawful (a .n) (a .count))
-
-add-head-of : tie.Need-add-head-of
-add-head-of c = omega (arith, admitted c .within)
-
-sub-t11 : tie.Need-sub-t11
-sub-t11 c = omega (arith, counted c)
+counted : (c : tie.After-head-for2) → let a = c .before .before .before .before .before .args in
+    c .head-for2 .result + monthsInRun cal (a .n) (a .count) ≡ c .before .head-for .result
+counted c =
+    let a = c .before .before .before .before .before .args in
+    let within = admitted (c .before .before) .within in
+    omega (
+      arith,
+      run-ends cal shoushi-lawful (a .n) (a .count),
+      c .head-for2 .ensures (omega (arith, within)),
+      c .before .head-for .ensures within,
+    )
 
 returns : tie.Need-returns
 returns c =
@@ -50,13 +46,13 @@ returns c =
     (said-as (at .run-asked .result) _ (at .run-asked .ensures) (c .before .k .given .1))
 
 returns-2 : tie.Need-returns-2
-unfolding runReply
 returns-2 c =
     let a = c .before .before .before .before .before .args in
-    let months : c .before .head-of .result - c .head-of2 .result ≡ monthsInRun cal (a .n) (a .count) = omega (arith, counted c) in
-    ap answer months ∙ sym (admitted (c .before .before) .answered (answer (monthsInRun cal (a .n) (a .count))))
+    let months : c .before .head-for .result - c .head-for2 .result ≡ monthsInRun cal (a .n) (a .count) = omega (arith, counted c) in
+    ap answer months ∙ sym (run-answered shoushi (a .n) (a .count) (a .room) (admitted (c .before .before)))
 
 pub run-reply-spec : {M : Type 1} → statement M
 run-reply-spec =
     tie.close
-    (tie.spec (search needs) (search needs) (search needs) add-head-of (search needs) (search needs) sub-t11 returns returns-2)
+    (tie.spec (search needs) (search needs) (search needs) (λ c. omega (arith, admitted c .within)) (search needs)
+    (search needs) (λ c. omega (arith, counted c)) returns returns-2)

@@ -5,18 +5,12 @@ use Rattle.remainders.specs.ExtraDays.{extraDay, extraReply}
 use Rattle.remainders.proofs.extra_day.Statement.{statement}
 use Rattle.remainders.proofs.extra_day.Tie as tie
 
-returns : tie.Need-returns
-unfolding extraReply
-returns c = simp (le-leb _ _ (c .if1 .taken))
-
-returns-2 : tie.Need-returns-2
-unfolding extraReply extraDay
-returns-2 c = simp (lt-leb _ _ (c .before .if1 .left), lt-leb _ _ (c .if2 .taken))
-
-returns-3 : tie.Need-returns-3
-unfolding extraReply extraDay
-returns-3 c = simp (lt-leb _ _ (c .before .if1 .left), le-leb _ _ (c .if2 .left))
-
 pub extra-day-spec : {M : Type 1} → statement M
+unfolding extraReply extraDay
 extra-day-spec =
-    tie.close (tie.spec returns returns-2 (search needs) (search needs) returns-3)
+    tie.close
+    (tie.spec
+    (λ c. simp (le-leb _ _ (c .if1 .taken)))
+    (λ c. simp (lt-leb _ _ (c .before .if1 .left), lt-leb _ _ (c .if2 .taken)))
+    (search needs) (search needs)
+    (λ c. simp (lt-leb _ _ (c .before .if1 .left), le-leb _ _ (c .if2 .left))))

@@ -7,16 +7,6 @@ use Rattle.seasons.proofs.TermLaws.{term-least, earth-term, no-earth-te
 use Rattle.seasons.proofs.earth.Statement.{statement}
 use Rattle.seasons.proofs.earth.Tie as tie
 
-returns : tie.Need-returns
-unfolding earthReply
-returns c = simp (lt-ltb _ _ (c .if1 .taken))
-
-term-time-requires : tie.Need-term-time-requires
-term-time-requires c κs = omega (arith, earth-below (c .before .before .args .i) (c .match .keys1))
-
-sub-t6 : tie.Need-sub-t6
-sub-t6 c = let a = c .before .before .before .args in omega (arith, term-least shoushi (a .n) (a .i))
-
 returns-2 : tie.Need-returns-2
 unfolding earthReply earth
 returns-2 c =
@@ -26,10 +16,13 @@ returns-2 c =
       c .term-time .ensures,
     )
 
-returns-3 : tie.Need-returns-3
-unfolding earthReply
-returns-3 c =
-    simp (le-ltb _ _ (c .before .if1 .left), no-earth-term (c .before .before .args .i) (c .match .rest .1))
-
 pub earth-spec : {M : Type 1} → statement M
-earth-spec = tie.close (tie.spec returns term-time-requires sub-t6 returns-2 returns-3)
+unfolding earthReply
+earth-spec =
+    tie.close
+    (tie.spec
+    (λ c. simp (lt-ltb _ _ (c .if1 .taken)))
+    (λ c κs. omega (arith, earth-below (c .before .before .args .i) (c .match .keys1)))
+    (λ c. let a = c .before .before .before .args in omega (arith, term-least shoushi (a .n) (a .i)))
+    returns-2
+    (λ c. simp (le-ltb _ _ (c .before .if1 .left), no-earth-term (c .before .before .args .i) (c .match .rest .1))))

@@ -7,24 +7,6 @@ use Rattle.seasons.proofs.TermLaws.{term-most}
 use Rattle.seasons.proofs.pentad.Statement.{statement}
 use Rattle.seasons.proofs.pentad.Tie as tie
 
-returns : tie.Need-returns
-unfolding pentadReply
-returns c = simp (lt-ltb _ _ (c .if1 .taken))
-
-returns-2 : tie.Need-returns-2
-unfolding pentadReply
-returns-2 c = simp (le-ltb _ _ (c .before .if1 .left), le-leb _ _ (c .if2 .taken))
-
-returns-3 : tie.Need-returns-3
-unfolding pentadReply
-returns-3 c =
-    simp (le-ltb _ _ (c .before .before .if1 .left), lt-leb _ _ (c .before .if2 .left), lt-ltb _ _ (c .if3 .taken))
-
-add-t7 : tie.Need-add-t7
-add-t7 c =
-    let a = c .before .before .before .before .args in
-    omega (arith, term-most (a .n) (a .i) (omega arith) (omega arith))
-
 returns-4 : tie.Need-returns-4
 unfolding pentadReply pentad
 returns-4 c =
@@ -36,5 +18,13 @@ returns-4 c =
     )
 
 pub pentad-spec : {M : Type 1} → statement M
+unfolding pentadReply
 pentad-spec =
-    tie.close (tie.spec returns returns-2 returns-3 (search needs) (search needs) add-t7 returns-4)
+    tie.close
+    (tie.spec
+    (λ c. simp (lt-ltb _ _ (c .if1 .taken)))
+    (λ c. simp (le-ltb _ _ (c .before .if1 .left), le-leb _ _ (c .if2 .taken)))
+    (λ c. simp (le-ltb _ _ (c .before .before .if1 .left), lt-leb _ _ (c .before .if2 .left), lt-ltb _ _ (c .if3 .taken)))
+    (search needs) (search needs)
+    (λ c. let a = c .before .before .before .before .args in omega (arith, term-most (a .n) (a .i) (omega arith) (omega arith)))
+    returns-4)

@@ -6,10 +6,7 @@ use Rattle.seasons.specs.Terms.{term}
 use Rattle.seasons.proofs.term_time.Statement.{statement}
 use Rattle.seasons.proofs.term_time.Tie as tie
 
-returns : tie.Need-returns
-unfolding term solstice
-returns c = refl
-
 pub term-time-spec : {M : Type 1} → statement M
+unfolding term solstice
 term-time-spec =
-    tie.close (tie.spec (search needs) (search needs) (search needs) (search needs) returns)
+    tie.close (tie.spec (search needs) (search needs) (search needs) (search needs) (λ c. refl))

@@ -7,7 +7,7 @@ use lib.ListN.{length, length-set}
 use denote.Ref.{now}
 use Rattle.measure.specs.Epoch.{shoushi}
 use Rattle.rows.specs.Row.{listed, over}
-use Rattle.rows.proofs.Row.{put-listed}
+use Rattle.rows.proofs.Row.{over-is, listed-none, put-listed}
 use Rattle.seasons.specs.Terms.{terms, term, termList}
 use Rattle.seasons.proofs.write_terms.Statement.{statement}
 use Rattle.seasons.proofs.write_terms.Tie as tie
@@ -17,10 +17,6 @@ Inv-loop n row₀ i₀ row i = (i ≤ terms) × (length row ≡ length row₀) �
 
 abbrev μ-loop : tie.MeasureT-loop
 μ-loop n row₀ i₀ row i = terms - i
-
-loop-holds : tie.Need-loop-holds Inv-loop μ-loop
-unfolding over listed
-loop-holds c = (omega arith, refl, refl)
 
 loop-again : tie.Need-loop-again Inv-loop μ-loop
 loop-again c =
@@ -32,18 +28,15 @@ loop-again c =
           (put-listed (term shoushi (a .n)) (now (a .row)) (at .loop .row) (at .loop .i) (at .loop .inv .2) (omega arith)),
     )
 
-same-length : tie.Need-same-length Inv-loop μ-loop
-same-length c = c .before .loop .inv .1
-
-returns : tie.Need-returns Inv-loop μ-loop
-unfolding termList
-returns c =
-    let a = c .before .before .before .args in
-    let all : c .before .loop .i ≡ terms = omega arith in
-    c .before .loop .inv .2 ∙ ap (λ (i : ℕ). over (listed (term shoushi (a .n)) 0 i) (now (a .row))) all
-
 pub write-terms-spec : {M : Type 1} → statement M
+unfolding termList
 write-terms-spec =
     tie.close
-    (tie.spec Inv-loop μ-loop loop-holds (λ c κs. omega arith) (λ c. omega arith) (λ c. omega arith) (λ c. omega arith)
-    (λ c. omega arith) loop-again same-length returns)
+    (tie.spec Inv-loop μ-loop
+    (λ c. (omega arith, refl, rw (listed-none, over-is)))
+    (λ c κs. omega arith) (λ c. omega arith) (λ c. omega arith) (λ c. omega arith) (λ c. omega arith) loop-again
+    (λ c. c .before .loop .inv .1)
+    (λ c.
+    let a = c .before .before .before .args in
+    let all : c .before .loop .i ≡ terms = omega arith in
+    c .before .loop .inv .2 ∙ ap (λ (i : ℕ). over (listed (term shoushi (a .n)) 0 i) (now (a .row))) all))

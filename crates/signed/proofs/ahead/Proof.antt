@@ -8,9 +8,8 @@ use Rattle.signed.proofs.Integers.{integer-ahead}
 use Rattle.signed.proofs.ahead.Statement.{statement}
 use Rattle.signed.proofs.ahead.Tie as tie
 
-returns : tie.Need-returns
-returns c = toZ-pos w64 (omega arith) ∙ sym (integer-ahead (c .args .magnitude))
-
 pub ahead-spec : {M : Type 1} → statement M
 ahead-spec =
-    tie.close (tie.spec (search needs) returns)
+    tie.close
+    (tie.spec (search needs)
+    (λ c. toZ-pos w64 (omega arith) ∙ sym (integer-ahead (c .args .magnitude))))

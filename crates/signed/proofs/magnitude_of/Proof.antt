@@ -49,41 +49,24 @@ module _ (z : ℤ) (f : SFits w64 z) where
   above : ltZ (toZ w64 (ofZ w64 z)) (toZ w64 (ofZ w64 (pos 0))) ≡ false → T (nonNeg z)
   above e = subst (λ (x : ℤ). T (nonNeg x)) (sym (from-zero z f e .is)) tt
 
-add-result : tie.Need-add-result
-add-result c =
-    let f = c .before .fits .number in
-    let n = below (c .before .args .number) f (c .if1 .taken) in
-    simp (toZ-ofZ f) (n .up-fits)
-
-sub-result : tie.Need-sub-result
-sub-result c =
-    let f = c .before .fits .number in
-    let n = below (c .before .args .number) f (c .if1 .taken) in
-    simp (toZ-ofZ f, toZ-ofZ (n .up-fits), n .opposite) (record { sfits = f .sfits })
-
-cast-result : tie.Need-cast-result
-cast-result c =
-    let f = c .before .fits .number in
-    let n = below (c .before .args .number) f (c .if1 .taken) in
-    simp (toZ-ofZ f, toZ-ofZ (n .up-fits), n .opposite, toZ-pos w64 (f .sfits)) (tt, record { fits = omega (arith, f .sfits) })
-
-add-result-2 : tie.Need-add-result-2
-add-result-2 c =
-    let f = c .before .fits .number in
-    let n = below (c .before .args .number) f (c .if1 .taken) in
-    simp (toZ-ofZ f, toZ-ofZ (n .up-fits), n .opposite, toZ-pos w64 (f .sfits)) (record { fits = omega (arith, f .sfits) })
-
-cast-result-2 : tie.Need-cast-result-2
-cast-result-2 c =
-    let f = c .before .fits .number in
-    simp (toZ-ofZ f) (above (c .before .args .number) f (c .if1 .left), fits-natAbs tt f)
-
-returns : tie.Need-returns
-returns c =
-    let f = c .before .fits .number in
-    let n = below (c .before .args .number) f (c .if1 .taken) in
-    simp (toZ-ofZ f, toZ-ofZ (n .up-fits), n .opposite, toZ-pos w64 (f .sfits)) (n .size)
+-- the arm of a negative number
+arm : (c : tie.Then1) → Negative (c .before .args .number)
+arm c = below (c .before .args .number) (c .before .fits .number) (c .if1 .taken)
 
 pub magnitude-of-spec : {M : Type 1} → statement M
 magnitude-of-spec =
-    tie.close (tie.spec add-result sub-result cast-result add-result-2 cast-result-2 returns (λ c. search needs))
+    tie.close
+    (tie.spec
+    (λ c. simp (toZ-ofZ (c .before .fits .number)) (arm c .up-fits))
+    (λ c. let f = c .before .fits .number in simp (toZ-ofZ f, toZ-ofZ (arm c .up-fits), arm c .opposite) (record { sfits = f .sfits }))
+    (λ c.
+    let f = c .before .fits .number in
+    simp (toZ-ofZ f, toZ-ofZ (arm c .up-fits), arm c .opposite, toZ-pos w64 (f .sfits)) (tt, record { fits = omega (arith, f .sfits) }))
+    (λ c.
+    let f = c .before .fits .number in
+    simp (toZ-ofZ f, toZ-ofZ (arm c .up-fits), arm c .opposite, toZ-pos w64 (f .sfits)) (record { fits = omega (arith, f .sfits) }))
+    (λ c. let f = c .before .fits .number in simp (toZ-ofZ f) (above (c .before .args .number) f (c .if1 .left), fits-natAbs tt f))
+    (λ c.
+    let f = c .before .fits .number in
+    simp (toZ-ofZ f, toZ-ofZ (arm c .up-fits), arm c .opposite, toZ-pos w64 (f .sfits)) (arm c .size))
+    (λ c. search needs))

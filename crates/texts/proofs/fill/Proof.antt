@@ -9,7 +9,7 @@ use denote.Ref.{now}
 use lib.ListN.{length, getD, take, drop, length-take, length-drop}
 use lib.Seq.{drop-length, length-take-le}
 use Rattle.rows.specs.Row.{over}
-use Rattle.rows.proofs.Row.{more-written}
+use Rattle.rows.proofs.Row.{over-is, more-written}
 use Rattle.texts.specs.Text.{piece, filled, mostDigits}
 use Rattle.texts.proofs.TextLaws.{filled-step}
 use Rattle.texts.proofs.fill.Statement.{statement}
@@ -23,19 +23,6 @@ Inv-loop template numbers row₀ used₀ next₀ i₀ row used next i =
 
 abbrev μ-loop : tie.MeasureT-loop
 μ-loop template numbers row₀ used₀ next₀ i₀ row used next i = length template - i
-
-loop-holds : tie.Need-loop-holds Inv-loop μ-loop
-unfolding over
-loop-holds c = (omega arith, omega arith, omega arith, refl, refl, refl)
-
-number-at-requires : tie.Need-number-at-requires Inv-loop μ-loop
-number-at-requires c κs = tt
-
-put-piece-requires : tie.Need-put-piece-requires Inv-loop μ-loop
-put-piece-requires c κs = simp (length-take, length-drop) (omega arith)
-
-numbers-taken-requires : tie.Need-numbers-taken-requires Inv-loop μ-loop
-numbers-taken-requires c κs = tt
 
 loop-again : tie.Need-loop-again Inv-loop μ-loop
 loop-again c =
@@ -62,9 +49,6 @@ loop-again c =
       e .1,
     )
 
-same-length : tie.Need-same-length Inv-loop μ-loop
-same-length c = c .before .loop .inv .3
-
 returns : tie.Need-returns Inv-loop μ-loop
 unfolding filled
 returns c =
@@ -82,6 +66,10 @@ returns c =
 pub fill-spec : {M : Type 1} → statement M
 fill-spec =
     tie.close
-    (tie.spec Inv-loop μ-loop loop-holds (λ c. omega arith) number-at-requires (λ c. omega arith) (λ c. omega arith)
-    (λ c. omega arith) put-piece-requires (λ c. omega arith) numbers-taken-requires (λ c. omega arith) (λ c. omega arith)
-    (λ c. omega arith) loop-again same-length returns)
+    (tie.spec Inv-loop μ-loop
+    (λ c. (omega arith, omega arith, omega arith, refl, refl, sym (over-is [] _)))
+    (λ c. omega arith) (λ c κs. tt) (λ c. omega arith) (λ c. omega arith) (λ c. omega arith)
+    (λ c κs. simp (length-take, length-drop) (omega arith))
+    (λ c. omega arith) (λ c κs. tt) (λ c. omega arith) (λ c. omega arith) (λ c. omega arith) loop-again
+    (λ c. c .before .loop .inv .3)
+    returns)

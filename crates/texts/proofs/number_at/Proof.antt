@@ -6,9 +6,8 @@ use denote.Ref.{now}
 use Rattle.texts.proofs.number_at.Statement.{statement}
 use Rattle.texts.proofs.number_at.Tie as tie
 
-returns-2 : tie.Need-returns-2
-returns-2 c = sym (List·getD-eq-default (now (c .before .args .numbers)) 0 (c .if1 .left))
-
 pub number-at-spec : {M : Type 1} → statement M
 number-at-spec =
-    tie.close (tie.spec (search needs) (search needs) (search needs) returns-2)
+    tie.close
+    (tie.spec (search needs) (search needs) (search needs)
+    (λ c. sym (List·getD-eq-default (now (c .before .args .numbers)) 0 (c .if1 .left))))

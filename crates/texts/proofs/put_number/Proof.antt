@@ -8,6 +8,7 @@ use denote.Ref.{now}
 use lib.ListN.{length, take, drop}
 use lib.Seq.{take-length}
 use Rattle.rows.specs.Row.{over}
+use Rattle.rows.proofs.Row.{over-is}
 use Rattle.texts.specs.Text.{decimal, mostDigits}
 use Rattle.texts.proofs.DecimalLaws.{few-digits, fewest-digits}
 use Rattle.texts.proofs.put_number.Statement.{statement}
@@ -25,8 +26,7 @@ copy-requires c κs =
 
 -- what a copy of all bytes leaves
 copied : (new s row now : List ℕ) → now ≡ take (length s) s ++ drop (length s) row → s ≡ new → now ≡ over new row
-unfolding over
-copied new s row now e h = e ∙ rw (take-length, h)
+copied new s row now e h = e ∙ rw (take-length, h, over-is)
 
 returns : tie.Need-returns
 returns c =

@@ -5,11 +5,8 @@ use Rattle.timing.specs.Timed.{numberTold}
 use Rattle.timing.proofs.timing_run.Statement.{statement}
 use Rattle.timing.proofs.timing_run.Tie as tie
 
-returns : tie.Need-returns
-returns c =
-    let e = c .before .before .before .run .ensures in
-    (c .number-told .ensures ∙ ap numberTold (e .0), e .1)
-
 pub timing-run-spec : {M : Type 1} → statement M
 timing-run-spec =
-    tie.close (tie.spec (search needs) (search needs) (search needs) returns)
+    tie.close
+    (tie.spec (search needs) (search needs) (search needs)
+    (λ c. let e = c .before .before .before .run .ensures in (c .number-told .ensures ∙ ap numberTold (e .0), e .1)))

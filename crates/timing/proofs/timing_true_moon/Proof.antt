@@ -5,9 +5,8 @@ use Rattle.timing.specs.Timed.{numberTold}
 use Rattle.timing.proofs.timing_true_moon.Statement.{statement}
 use Rattle.timing.proofs.timing_true_moon.Tie as tie
 
-returns : tie.Need-returns
-returns c = c .number-told .ensures ∙ ap numberTold (c .before .true-moon .ensures)
-
 pub timing-true-moon-spec : {M : Type 1} → statement M
 timing-true-moon-spec =
-    tie.close (tie.spec (search needs) (search needs) returns)
+    tie.close
+    (tie.spec (search needs) (search needs)
+    (λ c. c .number-told .ensures ∙ ap numberTold (c .before .true-moon .ensures)))

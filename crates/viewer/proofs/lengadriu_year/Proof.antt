@@ -8,7 +8,7 @@ use native.Mathlib.Omega.{arith}
 use borrow.Author.Needs.{needs}
 use denote.Ref.{now}
 use Rattle.rows.specs.Row.{over}
-use Rattle.viewer.specs.Bytes.{bytesOf}
+use Rattle.viewer.specs.Bytes.{lowFirstBytes}
 use Rattle.viewer.specs.Room.{roomIn}
 use Rattle.viewer.specs.Told.{countTold}
 use Rattle.viewer.proofs.YearReply.{count-most, short-refused, long-answered, numbers-given, year-refused, refused-in-any}
@@ -66,7 +66,7 @@ returns-2 c =
     (c .before .before .before .before .before .if1 .left) in
     let numbers = numbers-given (a .n) _ (list .result) (list .ensures .0) (got .records .given .1) _ _ (list .ensures .1) in (
       ap countTold (sym reply),
-      rw reply (c .before .before .put-numbers .ensures ∙ ap (λ (l : List ℕ). over (bytesOf l) (now (a .row))) numbers),
+      rw reply (c .before .before .put-numbers .ensures ∙ ap (λ (l : List ℕ). over (lowFirstBytes l) (now (a .row))) numbers),
     )
 
 returns-3 : tie.Need-returns-3

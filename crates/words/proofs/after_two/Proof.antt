@@ -5,15 +5,6 @@ use borrow.Author.Tests.{eq-eqb, ne-eqb}
 use Rattle.words.proofs.after_two.Statement.{statement}
 use Rattle.words.proofs.after_two.Tie as tie
 
-returns : tie.Need-returns
-returns c = simp (eq-eqb _ _ (c .if1 .taken))
-
-returns-2 : tie.Need-returns-2
-returns-2 c =
-    let n = c .before .before in
-    let p = n .before in
-    simp (ne-eqb _ _ (p .before .if1 .left), ← p .part-in .ensures, ← n .number-in .ensures, c .enum-told .given .1)
-
 returns-3 : tie.Need-returns-3
 returns-3 c =
     let known = c .before .before .before in
@@ -25,5 +16,11 @@ returns-3 c =
 pub after-two-spec : {M : Type 1} → statement M
 after-two-spec =
     tie.close
-    (tie.spec returns (search needs) (search needs) (search needs) (search needs) returns-2 (search needs) (search needs)
-    returns-3)
+    (tie.spec
+    (λ c. simp (eq-eqb _ _ (c .if1 .taken)))
+    (search needs) (search needs) (search needs) (search needs)
+    (λ c.
+    let n = c .before .before in
+    let p = n .before in
+    simp (ne-eqb _ _ (p .before .if1 .left), ← p .part-in .ensures, ← n .number-in .ensures, c .enum-told .given .1))
+    (search needs) (search needs) returns-3)

@@ -6,17 +6,6 @@ use Rattle.words.specs.Numbers.{numbersOf}
 use Rattle.words.proofs.numbers_in.Statement.{statement}
 use Rattle.words.proofs.numbers_in.Tie as tie
 
-returns : tie.Need-returns
-unfolding numbersOf
-returns c = simp (eq-eqb _ _ (c .if1 .taken))
-
-returns-2 : tie.Need-returns-2
-unfolding numbersOf
-returns-2 c =
-    let n = c .before .before in
-    let p = n .before in
-    simp (ne-eqb _ _ (p .before .if1 .left), ← p .part-in .ensures, ← n .number-in .ensures, c .enum-told .given .1)
-
 returns-3 : tie.Need-returns-3
 unfolding numbersOf
 returns-3 c =
@@ -27,7 +16,14 @@ returns-3 c =
     ∙ sym (simp (ne-eqb _ _ (p .before .if1 .left), ← p .part-in .ensures, ← n .number-in .ensures, known .a .given .1, ← c .before .rest-in .ensures))
 
 pub numbers-in-spec : {M : Type 1} → statement M
+unfolding numbersOf
 numbers-in-spec =
     tie.close
-    (tie.spec returns (search needs) (search needs) (search needs) (search needs) returns-2 (search needs) (search needs)
-    returns-3)
+    (tie.spec
+    (λ c. simp (eq-eqb _ _ (c .if1 .taken)))
+    (search needs) (search needs) (search needs) (search needs)
+    (λ c.
+    let n = c .before .before in
+    let p = n .before in
+    simp (ne-eqb _ _ (p .before .if1 .left), ← p .part-in .ensures, ← n .number-in .ensures, c .enum-told .given .1))
+    (search needs) (search needs) returns-3)

@@ -8,7 +8,7 @@ use native.Mathlib.Omega.{arith}
 use borrow.Author.Needs.{needs}
 use lib.ListN.{length}
 use denote.Ref.{now}
-use Rattle.words.specs.Numbers.{partOf, restOf}
+use Rattle.words.specs.Numbers.{partOf}
 use Rattle.words.specs.Text.{same}
 use Rattle.words.specs.Place.{placeWithin, placeOf}
 use Rattle.words.proofs.Same.{told-same}
@@ -22,13 +22,6 @@ Inv-loop word list left₀ k₀ left k = (length left + k ≤ length list) × (p
 abbrev μ-loop : tie.MeasureT-loop
 μ-loop word list left₀ k₀ left k = length left
 
-loop-holds : tie.Need-loop-holds Inv-loop μ-loop
-unfolding placeOf
-loop-holds c =
-    let s = now (c .before .before .args .list) in
-    let z : length s - 0 ≡ length s = omega arith in
-    (omega arith, rw (z, zero-add))
-
 returns : tie.Need-returns Inv-loop μ-loop
 returns c =
     let l = c .before .before .before .before in
@@ -37,11 +30,6 @@ returns c =
     let e : same (now (args .word)) (partOf left) ≡ true =
     rw (← c .before .before .part-in .ensures) (told-same (c .before .same .ensures) (c .if1 .taken)) in
     omega (arith, l .loop .inv .1, is-here (now (args .word)) left (length (now (args .list)) - l .loop .k) (omega arith) e)
-
-loop-less : tie.Need-loop-less Inv-loop μ-loop
-loop-less c =
-    let left = now (c .before .before .before .before .before .loop .left) in
-    omega (arith, ap length (c .rest-in .ensures), rest-shorter left (omega arith))
 
 loop-again : tie.Need-loop-again Inv-loop μ-loop
 loop-again c =
@@ -52,11 +40,9 @@ loop-again c =
     let e : same (now (args .word)) (partOf left) ≡ false =
     rw (← c .before .before .before .part-in .ensures) (told-same (c .before .before .same .ensures) (c .before .if1 .left)) in
     let m : n - l .loop .k ≡ suc (n - (l .loop .k + 1)) = omega arith in
-    let later = is-later (now (args .word)) left (n - l .loop .k) (n - (l .loop .k + 1)) m (omega arith) e in
-    let r : placeWithin (n - (l .loop .k + 1)) (now (args .word)) (now (c .rest-in .result)) ≡ placeWithin (n - (l .loop .k + 1)) (now (args .word)) (restOf left) =
-    ap (placeWithin (n - (l .loop .k + 1)) (now (args .word))) (c .rest-in .ensures) in (
+    let later = is-later (now (args .word)) left (n - l .loop .k) (n - (l .loop .k + 1)) m (omega arith) e in (
       omega (arith, ap length (c .rest-in .ensures), rest-shorter left (omega arith)),
-      omega (arith, l .loop .inv .1, later, r),
+      rw (c .rest-in .ensures) (omega (arith, l .loop .inv .1, later)),
     )
 
 returns-2 : tie.Need-returns-2 Inv-loop μ-loop
@@ -67,7 +53,16 @@ returns-2 c =
     omega (arith, l .loop .inv .1, at-end (now (args .word)) left (length (now (args .list)) - l .loop .k) (omega arith))
 
 pub place-of-spec : {M : Type 1} → statement M
+unfolding placeOf
 place-of-spec =
     tie.close
-    (tie.spec Inv-loop μ-loop loop-holds (search needs) (search needs) returns (search needs) (λ c. omega arith) loop-less
+    (tie.spec Inv-loop μ-loop
+    (λ c.
+    let s = now (c .before .before .args .list) in
+    let z : length s - 0 ≡ length s = omega arith in
+    (omega arith, rw (z, zero-add)))
+    (search needs) (search needs) returns (search needs) (λ c. omega arith)
+    (λ c.
+    let left = now (c .before .before .before .before .before .loop .left) in
+    omega (arith, ap length (c .rest-in .ensures), rest-shorter left (omega arith)))
     loop-again returns-2)

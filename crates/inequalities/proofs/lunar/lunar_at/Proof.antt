@@ -4,39 +4,28 @@ use native.Mathlib.Omega.{arith}
 use borrow.Author.Needs.{needs}
 use borrow.Author.Tests.{le-leb, lt-leb}
 use Rattle.rows.specs.Reply.{answer}
-use Rattle.signed.proofs.Integers.{held}
+use Rattle.signed.proofs.Integers.{held-as}
 use Rattle.inequalities.specs.Limits.{limits}
 use Rattle.inequalities.specs.Lunar.{lunarAtReply}
 use Rattle.inequalities.proofs.Sizes.{magnitude-le}
 use Rattle.inequalities.proofs.lunar.lunar_at.Statement.{statement}
 use Rattle.inequalities.proofs.lunar.lunar_at.Tie as tie
 
-returns : tie.Need-returns
-unfolding lunarAtReply
-returns c = simp (le-leb _ _ (c .if1 .taken))
-
-ahead-requires : tie.Need-ahead-requires
-ahead-requires c κs = omega (arith, magnitude-le (limits (c .before .before .before .before .args .time)), c .magnitude .ensures)
-
-behind-requires : tie.Need-behind-requires
-behind-requires c κs = omega (arith, magnitude-le (limits (c .before .before .before .before .args .time)), c .magnitude2 .ensures)
-
-returns-2 : tie.Need-returns-2
-unfolding lunarAtReply
-returns-2 c =
-    let b = c .before .before in
-    ap answer (held (c .ahead .result) (c .ahead .ok) ∙ c .ahead .ensures)
-    ∙ simp (lt-leb _ _ (b .before .before .if1 .left), b .enum-told .given .1, c .before .magnitude .ensures)
-
-returns-3 : tie.Need-returns-3
-unfolding lunarAtReply
-returns-3 c =
-    let b = c .before .before in
-    ap answer (held (c .behind .result) (c .behind .ok) ∙ c .behind .ensures)
-    ∙ simp (lt-leb _ _ (b .before .before .if1 .left), b .enum-told2 .given .1, c .before .magnitude2 .ensures)
-
 pub lunar-at-spec : {M : Type 1} → statement M
+unfolding lunarAtReply
 lunar-at-spec =
     tie.close
-    (tie.spec returns (search needs) (search needs) ahead-requires (search needs) (search needs) behind-requires returns-2
-    returns-3)
+    (tie.spec
+    (λ c. simp (le-leb _ _ (c .if1 .taken)))
+    (search needs) (search needs)
+    (λ c κs. omega (arith, magnitude-le (limits (c .before .before .before .before .args .time)), c .magnitude .ensures))
+    (search needs) (search needs)
+    (λ c κs. omega (arith, magnitude-le (limits (c .before .before .before .before .args .time)), c .magnitude2 .ensures))
+    (λ c.
+    let b = c .before .before in
+    ap answer (held-as (c .ahead .ok) (c .ahead .ensures))
+    ∙ simp (lt-leb _ _ (b .before .before .if1 .left), b .enum-told .given .1, c .before .magnitude .ensures))
+    (λ c.
+    let b = c .before .before in
+    ap answer (held-as (c .behind .ok) (c .behind .ensures))
+    ∙ simp (lt-leb _ _ (b .before .before .if1 .left), b .enum-told2 .given .1, c .before .magnitude2 .ensures)))

@@ -11,16 +11,12 @@ use Rattle.inequalities.specs.Lunar.{lunarMagnitude}
 use Rattle.inequalities.proofs.lunar.magnitude.Statement.{statement}
 use Rattle.inequalities.proofs.lunar.magnitude.Tie as tie
 
-law-at-requires : tie.Need-law-at-requires
-law-at-requires c κs =
-    omega (arith, nearer-le (c .before .in-time .result) (middle * day), c .from-nearer-end .ensures)
-
-returns : tie.Need-returns
-returns c =
-    let n = c .before .before .in-time in
-    c .law-at .ensures ∙ ap (law lawMoon) (c .before .from-nearer-end .ensures) ∙ magnitude-nearer (n .result)
-    ∙ ap lunarMagnitude (n .ensures)
-
 pub magnitude-spec : {M : Type 1} → statement M
 magnitude-spec =
-    tie.close (tie.spec (search needs) (search needs) (search needs) law-at-requires returns)
+    tie.close
+    (tie.spec (search needs) (search needs) (search needs)
+    (λ c κs. omega (arith, nearer-le (c .before .in-time .result) (middle * day), c .from-nearer-end .ensures))
+    (λ c.
+    let n = c .before .before .in-time in
+    c .law-at .ensures ∙ ap (law lawMoon) (c .before .from-nearer-end .ensures) ∙ magnitude-nearer (n .result)
+    ∙ ap lunarMagnitude (n .ensures)))

@@ -8,10 +8,9 @@ use Rattle.rows.proofs.Row.{listed-at}
 use Rattle.inequalities.proofs.motions.in_row.Statement.{statement}
 use Rattle.inequalities.proofs.motions.in_row.Tie as tie
 
-returns : tie.Need-returns
-unfolding listed motionInRow motionAt wholeLaw exact
-returns c = listed-at motionInRow rows (c .args .row) (search needs)
-
 pub in-row-spec : {M : Type 1} → statement M
+unfolding listed motionInRow motionAt wholeLaw exact
 in-row-spec =
-    tie.close (tie.spec (search needs) (search needs) returns)
+    tie.close
+    (tie.spec (search needs) (search needs)
+    (λ c. listed-at motionInRow rows (c .args .row) (search needs)))

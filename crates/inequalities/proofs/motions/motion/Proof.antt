@@ -8,30 +8,6 @@ use Rattle.inequalities.proofs.MotionAt.{quick-rises, tardy-rises, moti
 use Rattle.inequalities.proofs.motions.motion.Statement.{statement}
 use Rattle.inequalities.proofs.motions.motion.Tie as tie
 
-add-result : tie.Need-add-result
-add-result c = omega (arith, whole-law-le (c .before .whole .result + 1), c .whole-law .ensures)
-
-sub-result : tie.Need-sub-result
-sub-result c =
-    omega (
-      arith,
-      quick-rises (c .before .before .whole .result) (omega arith),
-      c .before .whole-law .ensures,
-      c .whole-law2 .ensures,
-    )
-
-add-result-2 : tie.Need-add-result-2
-add-result-2 c = omega (arith, whole-law-le (c .before .whole2 .result), c .whole-law3 .ensures)
-
-sub-result-2 : tie.Need-sub-result-2
-sub-result-2 c =
-    omega (
-      arith,
-      tardy-rises (c .before .before .whole2 .result) (omega arith),
-      c .before .whole-law3 .ensures,
-      c .whole-law4 .ensures,
-    )
-
 returns : tie.Need-returns
 unfolding motionAt
 returns c =
@@ -57,5 +33,12 @@ returns-2 c =
 pub motion-spec : {M : Type 1} → statement M
 motion-spec =
     tie.close
-    (tie.spec (search needs) (search needs) (search needs) add-result (search needs) sub-result (search needs) (search needs)
-    add-result-2 (search needs) (search needs) sub-result-2 returns returns-2)
+    (tie.spec (search needs) (search needs) (search needs)
+    (λ c. omega (arith, whole-law-le (c .before .whole .result + 1), c .whole-law .ensures))
+    (search needs)
+    (λ c. rw (c .before .whole-law .ensures, c .whole-law2 .ensures) (quick-rises _ (omega arith)))
+    (search needs) (search needs)
+    (λ c. omega (arith, whole-law-le (c .before .whole2 .result), c .whole-law3 .ensures))
+    (search needs) (search needs)
+    (λ c. rw (c .before .whole-law3 .ensures, c .whole-law4 .ensures) (tardy-rises _ (omega arith)))
+    returns returns-2)

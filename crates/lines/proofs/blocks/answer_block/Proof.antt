@@ -30,14 +30,14 @@ slice-aggregate-whole-lines c =
     let fits : a .have ≤ length (now (a .buf)) = omega arith in
     sym (length-take-le _ _ fits)
 
-slice-reshare-prefix-answer-lines : tie.Need-slice-reshare-prefix-answer-lines
-slice-reshare-prefix-answer-lines c = in-buffer c
+slice-reshare-prefix-answer-whole-lines : tie.Need-slice-reshare-prefix-answer-whole-lines
+slice-reshare-prefix-answer-whole-lines c = in-buffer c
 
-slice-aggregate-answer-lines : tie.Need-slice-aggregate-answer-lines
-slice-aggregate-answer-lines c = sym (length-take-le _ _ (in-buffer (c .before)))
+slice-aggregate-answer-whole-lines : tie.Need-slice-aggregate-answer-whole-lines
+slice-aggregate-answer-whole-lines c = sym (length-take-le _ _ (in-buffer (c .before)))
 
-answer-lines-requires : tie.Need-answer-lines-requires
-answer-lines-requires c κs =
+answer-whole-lines-requires : tie.Need-answer-whole-lines-requires
+answer-whole-lines-requires c κs =
     let cut = c .before .before in
     let buf = now (cut .before .before .before .before .args .buf) in
     omega (arith, in-buffer cut, length-take-le (cut .whole-lines .result) buf (in-buffer cut))
@@ -61,10 +61,10 @@ returns c =
     let are = lines-are buf (a .have) n kept fits (cut .whole-lines .ensures) (least .least .ensures) in
     let is = kept-is buf (a .have) n kept fits (cut .whole-lines .ensures) (least .least .ensures) in
     let long = kept-long buf (a .have) n kept fits (cut .whole-lines .ensures) (least .least .ensures) in
-    let count = lines .answer-lines .ensures .0 ∙ ap (λ (l : List ℕ). length (output shoushi l)) are in (
+    let count = lines .answer-whole-lines .ensures .0 ∙ ap (λ (l : List ℕ). length (output shoushi l)) are in (
       λ i. record { written = count i; kept = long i },
       (
-        lines .answer-lines .ensures .1 ∙ ap (λ (l : List ℕ). over (output shoushi l) (now (a .out))) are,
+        lines .answer-whole-lines .ensures .1 ∙ ap (λ (l : List ℕ). over (output shoushi l) (now (a .out))) are,
         c .before .before .shift .ensures ∙ ap (λ (l : List ℕ). over l buf) is,
       ),
     )
@@ -72,6 +72,6 @@ returns c =
 pub answer-block-spec : {M : Type 1} → statement M
 answer-block-spec =
     tie.close
-    (tie.spec (search needs) slice-aggregate-whole-lines (search needs) slice-reshare-prefix-answer-lines
-    slice-aggregate-answer-lines answer-lines-requires sub-least (search needs) shift-requires (search needs) (search needs)
+    (tie.spec (search needs) slice-aggregate-whole-lines (search needs) slice-reshare-prefix-answer-whole-lines
+    slice-aggregate-answer-whole-lines answer-whole-lines-requires sub-least (search needs) shift-requires (search needs) (search needs)
     returns)

@@ -47,8 +47,8 @@ loop-holds c =
     let start = c .before .before in
     begins cal shoushi-lawful (start .args .n) (now (start .args .row)) (start .args .start) (start .pre .1)
 
-put-month-requires : tie.Need-put-month-requires Inv-loop μ-loop
-put-month-requires c κs =
+put-span-requires : tie.Need-put-span-requires Inv-loop μ-loop
+put-span-requires c κs =
     let b = c .before .before .before in
     let p = b .before .before .before .pre in
     let solstice = b .before .middle-day .ensures in
@@ -79,7 +79,7 @@ loop-less c =
 
 loop-again : tie.Need-loop-again Inv-loop μ-loop
 loop-again c =
-    let put = c .before .before .before .put-month in
+    let put = c .before .before .before .put-span in
     let b = c .before .before .before .before .before .before .before in
     let start = b .before .before .before in
     let at = b .loop .inv in
@@ -110,5 +110,5 @@ pub write-year-spec : {M : Type 1} → statement M
 write-year-spec =
     tie.close
     (tie.spec Inv-loop μ-loop (λ c. omega arith) (λ c. omega arith) (λ c κs. omega arith) loop-holds (λ c. omega arith)
-    (λ c. omega arith) (λ c. omega arith) (λ c. omega arith) put-month-requires span-after-requires add-used loop-less
+    (λ c. omega arith) (λ c. omega arith) (λ c. omega arith) put-span-requires span-after-requires add-used loop-less
     loop-again same-length returns)

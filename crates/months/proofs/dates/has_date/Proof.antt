@@ -17,17 +17,15 @@ last-test : (r : MonthAnswer) (x : Month) (n p m : ℕ) → r ≡ InMonth x → 
     → (x .day =? m) ≡ hasDate (monthAnswerSaid r) n p m
 last-test r x n p m e year place = simp (e, eq-eqb (x .year) n year, eq-eqb (x .place) p place)
 
-returns-2 : tie.Need-returns-2
-returns-2 c = simp (c .before .before .before .reply .given .1, ne-eqb _ _ (c .if1 .taken))
-
 returns-3 : tie.Need-returns-3
 returns-3 c = simp (c .before .before .before .before .before .reply .given .1, eq-eqb _ _ (c .before .before .if1 .left), ne-eqb _ _ (c .if2 .taken))
 
-returns-4 : tie.Need-returns-4
-returns-4 c =
-    last-test _ _ _ _ _ (c .before .before .before .before .before .before .reply .given .1) (c .before .before .before .if1 .left)
-    (c .before .if2 .left)
-
 pub has-date-spec : {M : Type 1} → statement M
 has-date-spec =
-    tie.close (tie.spec (search needs) (search needs) (λ c. search needs) returns-2 returns-3 returns-4)
+    tie.close
+    (tie.spec (search needs) (search needs) (λ c. search needs)
+    (λ c. simp (c .before .before .before .reply .given .1, ne-eqb _ _ (c .if1 .taken)))
+    returns-3
+    (λ c.
+    last-test _ _ _ _ _ (c .before .before .before .before .before .before .reply .given .1) (c .before .before .before .if1 .left)
+    (c .before .if2 .left)))

@@ -6,12 +6,9 @@ use Rattle.months.specs.Kind.{kindSaid, markIn}
 use Rattle.months.proofs.kinds.leap_mark.Statement.{statement}
 use Rattle.months.proofs.kinds.leap_mark.Tie as tie
 
-returns : tie.Need-returns
-returns c = sym (ap (λ (kind : Kind). markIn (kindSaid kind)) (c .enum-told .given .1))
-
-returns-2 : tie.Need-returns-2
-returns-2 c = sym (ap (λ (kind : Kind). markIn (kindSaid kind)) (c .enum-told2 .given .1))
-
 pub leap-mark-spec : {M : Type 1} → statement M
 leap-mark-spec =
-    tie.close (tie.spec (search needs) (search needs) returns returns-2)
+    tie.close
+    (tie.spec (search needs) (search needs)
+    (λ c. sym (ap (λ (kind : Kind). markIn (kindSaid kind)) (c .enum-told .given .1)))
+    (λ c. sym (ap (λ (kind : Kind). markIn (kindSaid kind)) (c .enum-told2 .given .1))))

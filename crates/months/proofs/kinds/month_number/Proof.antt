@@ -6,12 +6,9 @@ use Rattle.months.specs.Kind.{kindSaid, numberIn}
 use Rattle.months.proofs.kinds.month_number.Statement.{statement}
 use Rattle.months.proofs.kinds.month_number.Tie as tie
 
-returns : tie.Need-returns
-returns c = sym (ap (λ (kind : Kind). numberIn (kindSaid kind)) (c .before .kind .given .1))
-
-returns-2 : tie.Need-returns-2
-returns-2 c = sym (ap (λ (kind : Kind). numberIn (kindSaid kind)) (c .before .kind2 .given .1))
-
 pub month-number-spec : {M : Type 1} → statement M
 month-number-spec =
-    tie.close (tie.spec (search needs) (search needs) returns returns-2)
+    tie.close
+    (tie.spec (search needs) (search needs)
+    (λ c. sym (ap (λ (kind : Kind). numberIn (kindSaid kind)) (c .before .kind .given .1)))
+    (λ c. sym (ap (λ (kind : Kind). numberIn (kindSaid kind)) (c .before .kind2 .given .1))))

@@ -2,7 +2,7 @@
 use borrow.Author.Needs.{needs}
 use denote.Ref.{now}
 use Rattle.remainders.specs.ExtraDays.{daysSaid}
-use Rattle.texts.specs.Text.{piece, taken, filled}
+use Rattle.texts.specs.Text.{piece, numbersTaken, filled}
 use Rattle.replies.specs.LineText.{daysText, blankHoles, numberHoles, numbersText}
 use Rattle.replies.proofs.LineTextLaws.{told-so, case-text}
 use Rattle.replies.proofs.line_texts.put_days.Statement.{statement}
@@ -15,7 +15,7 @@ returns c =
     told-so (now (at .before .before .before .args .row)) (case-text daysSaid daysText (at .d .given .1)) (put .put-refusal .ensures)
 
 returns-2 : tie.Need-returns-2
-unfolding daysText filled piece taken
+unfolding daysText filled piece numbersTaken
 returns-2 c =
     let put = c .before .before in
     let at = put .before .before .before .before in

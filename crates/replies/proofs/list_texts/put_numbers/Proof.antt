@@ -10,7 +10,7 @@ use lib.ListN.{length, take, drop, length-append, length-take, length-drop, leng
 use lib.Seq.{take-all}
 use Rattle.rows.specs.Row.{over}
 use Rattle.rows.proofs.Row.{restFrom, put, grow}
-use Rattle.texts.specs.Text.{piece, taken, filled}
+use Rattle.texts.specs.Text.{piece, numbersTaken, filled}
 use Rattle.replies.specs.LineText.{numberHoles}
 use Rattle.replies.proofs.LineTextLaws.{told-so}
 use Rattle.replies.specs.ListText.{listText, numberHole, numberRoom}
@@ -27,7 +27,7 @@ abbrev μ-loop : tie.MeasureT-loop
 μ-loop count numbers row₀ used₀ i₀ row used i = count - i
 
 returns : tie.Need-returns Inv-loop μ-loop
-unfolding filled piece taken
+unfolding filled piece numbersTaken
 returns c =
     let put = c .before .before in
     let at = put .before .before .before .before in

@@ -20,34 +20,6 @@ Inv-loop s v₀ i₀ v i = (i ≤ length s) × (digits s i ≡ true) × (value s
 abbrev μ-loop : tie.MeasureT-loop
 μ-loop s v₀ i₀ v i = length s - i
 
-returns : tie.Need-returns Inv-loop μ-loop
-returns c = sym (empty _ (c .if1 .taken))
-
-returns-2 : tie.Need-returns-2 Inv-loop μ-loop
-returns-2 c = sym (long _ (c .if2 .taken))
-
-loop-holds : tie.Need-loop-holds Inv-loop μ-loop
-unfolding digits value
-loop-holds c = (omega arith, refl, refl, lit< tt)
-
-returns-3 : tie.Need-returns-3 Inv-loop μ-loop
-returns-3 c =
-    let l = c .before .before .before in
-    let s = now (l .before .before .before .args .s) in
-    sym (no-digit s (l .loop .i) (omega arith) (simp (lt-leb _ _ (c .if3 .taken))))
-
-returns-4 : tie.Need-returns-4 Inv-loop μ-loop
-returns-4 c =
-    let l = c .before .before .before .before in
-    let s = now (l .before .before .before .args .s) in
-    sym (no-digit s (l .loop .i) (omega arith) (simp (lt-leb _ _ (c .if4 .taken), and-false)))
-
-returns-5 : tie.Need-returns-5 Inv-loop μ-loop
-returns-5 c =
-    let l = c .before .before .before .before .before in
-    let s = now (l .before .before .before .args .s) in
-    sym (large s (l .loop .i) (omega arith) (omega (arith, value-more s (l .loop .i))))
-
 loop-again : tie.Need-loop-again Inv-loop μ-loop
 loop-again c =
     let l = c .before .before .before .before .before in
@@ -68,8 +40,25 @@ returns-6 c =
     sym (whole s (omega arith) (omega arith) d (omega arith) ∙ ap Value v)
 
 pub number-in-spec : {M : Type 1} → statement M
+unfolding digits value
 number-in-spec =
     tie.close
-    (tie.spec Inv-loop μ-loop returns returns-2 loop-holds (λ c. omega arith) returns-3 returns-4 (λ c. omega arith)
-    (λ c. omega arith) returns-5 (λ c. omega arith) (λ c. omega arith) (λ c. omega arith) (λ c. omega arith) loop-again
-    returns-6)
+    (tie.spec Inv-loop μ-loop
+    (λ c. sym (empty _ (c .if1 .taken)))
+    (λ c. sym (long _ (c .if2 .taken)))
+    (λ c. (omega arith, refl, refl, lit< tt))
+    (λ c. omega arith)
+    (λ c.
+    let l = c .before .before .before in
+    let s = now (l .before .before .before .args .s) in
+    sym (no-digit s (l .loop .i) (omega arith) (simp (lt-leb _ _ (c .if3 .taken)))))
+    (λ c.
+    let l = c .before .before .before .before in
+    let s = now (l .before .before .before .args .s) in
+    sym (no-digit s (l .loop .i) (omega arith) (simp (lt-leb _ _ (c .if4 .taken), and-false))))
+    (λ c. omega arith) (λ c. omega arith)
+    (λ c.
+    let l = c .before .before .before .before .before in
+    let s = now (l .before .before .before .args .s) in
+    sym (large s (l .loop .i) (omega arith) (omega (arith, value-more s (l .loop .i)))))
+    (λ c. omega arith) (λ c. omega arith) (λ c. omega arith) (λ c. omega arith) loop-again returns-6)

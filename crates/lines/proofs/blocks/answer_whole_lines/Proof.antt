@@ -1,4 +1,4 @@
--- `blocks::answer_lines` meets its contract. Assumes nothing.
+-- `blocks::answer_whole_lines` meets its contract. Assumes nothing.
 use mathlib.Core.Path.{_≡_, _∙_, sym, ap}
 use Prim.Native.Nat.{ℕ}
 use native.Mathlib.Omega.{arith}
@@ -10,8 +10,8 @@ use Rattle.rows.specs.Row.{over}
 use Rattle.measure.specs.Epoch.{shoushi}
 use Rattle.lines.specs.Line.{output}
 use Rattle.lines.proofs.LineLaws.{answered-whole}
-use Rattle.lines.proofs.blocks.answer_lines.Statement.{statement}
-use Rattle.lines.proofs.blocks.answer_lines.Tie as tie
+use Rattle.lines.proofs.blocks.answer_whole_lines.Statement.{statement}
+use Rattle.lines.proofs.blocks.answer_whole_lines.Tie as tie
 
 returns : tie.Need-returns
 returns c =
@@ -34,6 +34,6 @@ returns-2 c =
     let row : out .replies .last .1 .0 ≡ over new (now (a .out)) = rw room at (out .replies .ensures .1) in
     (sym same, row)
 
-pub answer-lines-spec : {M : Type 1} → statement M
-answer-lines-spec =
+pub answer-whole-lines-spec : {M : Type 1} → statement M
+answer-whole-lines-spec =
     tie.close (tie.spec (search needs) (search needs) (search needs) (search needs) returns (search needs) returns-2)

@@ -1,4 +1,4 @@
--- `frames::put_month` meets its contract. Assumes nothing.
+-- `frames::put_month_line` meets its contract. Assumes nothing.
 use mathlib.Core.Path.{_≡_, _∙_, ap}
 use mathlib.Core.List.{[], _∷_, _++_}
 use Prim.Native.Nat.{ℕ, _+_, _≤_}
@@ -14,8 +14,8 @@ use Rattle.frames.specs.Digits.{digitsOf}
 use Rattle.frames.specs.MonthLine.{shown, monthLine}
 use Rattle.frames.proofs.DigitLaws.{length-digits}
 use Rattle.frames.proofs.MonthLineLaws.{line-length}
-use Rattle.frames.proofs.put_month.Statement.{statement}
-use Rattle.frames.proofs.put_month.Tie as tie
+use Rattle.frames.proofs.put_month_line.Statement.{statement}
+use Rattle.frames.proofs.put_month_line.Tie as tie
 
 -- how long the parts before each field are
 module _ (y n m w f : ℕ) where
@@ -77,8 +77,8 @@ same-length c =
     omega (arith, length-append line (lineEnd ∷ []), line-length (a .w) (shown (monthSaid (a .m)))) in
     ap length (returns c .1) ∙ length-over _ (now (a .out)) fits
 
-pub put-month-spec : {M : Type 1} → statement M
-put-month-spec =
+pub put-month-line-spec : {M : Type 1} → statement M
+put-month-line-spec =
     tie.close
     (tie.spec (search needs) (search needs) (search needs) (search needs) (search needs) (search needs) (search needs)
     (search needs) (search needs) (search needs) (search needs) (search needs) (search needs) (search needs) (search needs)

@@ -1,4 +1,4 @@
--- `record_bytes::put_number` meets its contract: one store after the other. Assumes nothing.
+-- `record_bytes::put_low_first` meets its contract: one store after the other. Assumes nothing.
 use mathlib.Core.List.{[], _∷_}
 use mathlib.Core.Path.{refl}
 use Prim.Native.Nat.{_/_, _%_}
@@ -9,8 +9,8 @@ use denote.Ref.{now}
 use Rattle.rows.specs.Row.{over}
 use Rattle.rows.proofs.Row.{put}
 use Rattle.viewer.specs.Bytes.{lowFirst}
-use Rattle.viewer.proofs.record_bytes.put_number.Statement.{statement}
-use Rattle.viewer.proofs.record_bytes.put_number.Tie as tie
+use Rattle.viewer.proofs.record_bytes.put_low_first.Statement.{statement}
+use Rattle.viewer.proofs.record_bytes.put_low_first.Tie as tie
 
 slice-write-row-2 : tie.Need-slice-write-row-2
 slice-write-row-2 c = simp length-set (omega arith)
@@ -29,8 +29,8 @@ returns c =
     (omega arith))
     refl (omega arith)
 
-pub put-number-spec : {M : Type 1} → statement M
-put-number-spec =
+pub put-low-first-spec : {M : Type 1} → statement M
+put-low-first-spec =
     tie.close
     (tie.spec (search needs) (search needs) (search needs) slice-write-row-2 (search needs) slice-write-row-3 (search needs)
     (λ c. search needs) (search needs) returns)

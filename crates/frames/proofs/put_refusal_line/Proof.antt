@@ -1,4 +1,4 @@
--- `frames::put_refusal` meets its contract. Assumes nothing.
+-- `frames::put_refusal_line` meets its contract. Assumes nothing.
 use mathlib.Core.Path.{_∙_, refl, ap}
 use mathlib.Core.List.{[], _∷_, _++_}
 use Prim.Native.Nat.{_≤_}
@@ -12,8 +12,8 @@ use Rattle.frames.specs.Digits.{digitsOf}
 use Rattle.frames.specs.MonthLine.{refusalLine}
 use Rattle.frames.proofs.DigitLaws.{length-digits}
 use Rattle.frames.proofs.MonthLineLaws.{refusal-length}
-use Rattle.frames.proofs.put_refusal.Statement.{statement}
-use Rattle.frames.proofs.put_refusal.Tie as tie
+use Rattle.frames.proofs.put_refusal_line.Statement.{statement}
+use Rattle.frames.proofs.put_refusal_line.Tie as tie
 
 returns : tie.Need-returns
 unfolding refusalLine
@@ -36,7 +36,7 @@ same-length c =
     omega (arith, length-append line (lineEnd ∷ []), refusal-length (a .k)) in
     ap length (returns c .1) ∙ length-over _ (now (a .out)) fits
 
-pub put-refusal-spec : {M : Type 1} → statement M
-put-refusal-spec =
+pub put-refusal-line-spec : {M : Type 1} → statement M
+put-refusal-line-spec =
     tie.close
     (tie.spec (search needs) (search needs) (search needs) (search needs) (search needs) (search needs) same-length returns)
