@@ -1,7 +1,7 @@
 -- Laws of answers: one that is no list leaves the row as it is, and a list stands in the row from its start.
 -- Assumes nothing.
-use mathlib.Core.List.{List, []}
-use mathlib.Core.Path.{_≡_, _∙_, refl, sym, ap}
+use mathlib.Core.List.{List}
+use mathlib.Core.Path.{_≡_, _∙_, refl, ap}
 use Prim.Native.Nat.{ℕ, suc, _*_, _≤_}
 use native.Mathlib.Omega.{arith}
 use lib.IntN.{ℤ}

@@ -2,10 +2,9 @@
 -- Assumes nothing.
 use mathlib.Core.List.{List}
 use mathlib.Core.Path.{_≡_}
-use Prim.Native.Nat.{ℕ, suc, _*_, _≤_}
+use Prim.Native.Nat.{ℕ, suc}
 use native.Mathlib.Omega.{arith}
-use lib.ListN.{length}
-use Rattle.rows.specs.Reply.{Reply, answer, refused}
+use Rattle.rows.specs.Reply.{Reply, refused}
 use Rattle.measure.specs.Units.{lastYear}
 use Rattle.measure.specs.Epoch.{shoushi}
 use Rattle.seasons.specs.Terms.{terms, termList, termsReply}

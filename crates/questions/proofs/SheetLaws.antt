@@ -11,7 +11,7 @@ use Rattle.measure.specs.Epoch.{shoushi}
 use Rattle.sheets.specs.Sheet.{fitting, fittingReply}
 use Rattle.sheets.specs.declared.Mark.{Mark}
 use Rattle.sheets.proofs.OnSheet.{outcome-same}
-use Rattle.questions.specs.DeskReply.{DeskReply, sheet, asList, Answers}
+use Rattle.questions.specs.DeskReply.{sheet, asList, Answers}
 use Rattle.questions.specs.MarkWords.{marksIn, sheetRead}
 use Rattle.questions.specs.Question.{onMarks}
 use Rattle.questions.specs.declared.DeskAnswer.the-variants.{Sheet}

@@ -1,10 +1,10 @@
 -- The contract of `ask` determines its answer and every number of the row. Assumes nothing.
 use mathlib.Core.List.{List}
 use mathlib.Core.Path.{_≡_, _∙_, refl, sym, ap}
-use Prim.Native.Nat.{ℕ, _*_, _/_, _≤_, _<_}
+use Prim.Native.Nat.{ℕ, _*_, _/_, _<_}
 use native.Mathlib.Omega.{arith}
 use denote.Ref.{now}
-use lib.ListN.{length, take}
+use lib.ListN.{length}
 use native.Mathlib.Nat.{mul-div-cancel-left}
 use lib.Seq.{length-take-le}
 use Rattle.rows.specs.Reply.{Reply, answer, refused, answerSaid}

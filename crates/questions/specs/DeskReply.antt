@@ -8,7 +8,6 @@ use lib.IntN.{ℤ}
 use lib.ListN.{length, take}
 use Rattle.rows.specs.Reply.{Reply, answer, refused, answerSaid}
 use Rattle.rows.specs.Row.{over}
-use Rattle.rows.specs.declared.Answer.{Answer}
 use Rattle.measure.specs.Units.{lastYear}
 use Rattle.measure.specs.declared.Name.{Name}
 use Rattle.signed.specs.Signed.{signedSaid}

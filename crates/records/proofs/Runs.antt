@@ -5,7 +5,7 @@ use mathlib.Core.Path.{_≡_, _∙_, refl, ap}
 use Prim.Native.Nat.{ℕ, suc, _+_, _≤_, _<_}
 use native.Mathlib.Omega.{arith}
 use lib.ListN.{length}
-use Rattle.rows.specs.Reply.{Reply, answer, refused, answerSaid}
+use Rattle.rows.specs.Reply.{Reply, refused, answerSaid}
 use Rattle.rows.specs.Row.{listed, over, rowAfter}
 use Rattle.measure.specs.Units.{lastYear}
 use Rattle.measure.specs.Epoch.{shoushi}

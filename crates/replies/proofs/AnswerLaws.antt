@@ -1,6 +1,6 @@
 -- Laws of what answers a line: how many numbers its list takes, and when a row has room for its text.
 -- Assumes nothing.
-use mathlib.Core.Bool.{Bool, false}
+use mathlib.Core.Bool.{false}
 use mathlib.Core.List.{List}
 use mathlib.Core.Path.{_≡_, refl, ap₂}
 use Prim.Native.Nat.{ℕ, suc, _≤_}

@@ -7,7 +7,7 @@ use Rattle.rows.specs.Choice.{_<?_}
 use Rattle.rows.specs.Reply.{Reply, answer, shortRow, refuseIf}
 use Rattle.measure.specs.Epoch.{Epoch}
 use Rattle.lists.specs.Records.{recordWidth}
-use Rattle.questions.specs.DeskReply.{DeskReply, mostRecords}
+use Rattle.questions.specs.DeskReply.{mostRecords}
 use Rattle.questions.specs.Question.{replyTo}
 use Rattle.replies.specs.ReplyText.{replyText, roomOf}
 

@@ -8,7 +8,7 @@ use Rattle.measure.specs.Epoch.{shoushi}
 use Rattle.month_law.specs.Calendar.{Calendar}
 use Rattle.edition.specs.Edition.{calendar}
 use Rattle.edition.proofs.Edition.{shoushi-lawful}
-use Rattle.lists.specs.Lists.{runReply, monthsInRun}
+use Rattle.lists.specs.Lists.{monthsInRun}
 use Rattle.lists.proofs.RunLaws.{run-ends}
 use Rattle.lists.proofs.Asked.{Admitted, said-as, run-refused, run-admitted, run-answered}
 use Rattle.records.proofs.run_reply.Statement.{statement}

@@ -1,5 +1,4 @@
 -- `questions::counted::alone_at` meets its contract. Assumes nothing.
-use borrow.Author.Needs.{needs}
 use Rattle.words.specs.Choice.{choiceAt}
 use Rattle.rows.specs.Row.{over}
 use mathlib.Core.Path.{refl}

@@ -7,7 +7,6 @@ use denote.Ref.{now}
 use lib.ListN.{take}
 use Rattle.rows.specs.Reply.{answerSaid}
 use Rattle.rows.specs.declared.Answer.{Answer}
-use Rattle.lists.specs.Records.{recordWidth}
 use Rattle.questions.specs.DeskReply.{held}
 use Rattle.replies.specs.ListText.{listText, numberRoom}
 use Rattle.replies.proofs.LineTextLaws.{told-so, case-text}

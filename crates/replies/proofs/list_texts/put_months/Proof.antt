@@ -1,10 +1,7 @@
 -- `replies::list_texts::put_months` meets its contract. Assumes nothing.
 use borrow.Author.Needs.{needs}
-use mathlib.Core.Path.{_≡_, _∙_, ap}
-use Prim.Native.Nat.{ℕ, _*_}
 use native.Mathlib.Omega.{arith}
 use denote.Ref.{now}
-use lib.ListN.{take}
 use Rattle.rows.specs.Reply.{answerSaid}
 use Rattle.rows.specs.declared.Answer.{Answer}
 use Rattle.lists.specs.Records.{recordWidth}
