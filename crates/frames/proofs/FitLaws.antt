@@ -11,7 +11,8 @@ use Rattle.month_law.specs.Lawful.{Lawful}
 use Rattle.month_law.proofs.Months.{day-in-month}
 use Rattle.edition.specs.Edition.{calendar}
 use Rattle.edition.proofs.Edition.{figures, shoushi-lawful}
-use Rattle.months.specs.Month.{MonthOfDay, earliest, latest, placed, monthOfDay, dayReply}
+use Rattle.months.specs.Month.{MonthOfDay, earliest, latest, monthOfDay, dayReply}
+use Rattle.months.proofs.ByTerm.{month-of-day}
 use Rattle.months.proofs.Sizes.{kind-most}
 use Rattle.months.proofs.Dated.{day-admitted}
 use Rattle.months.proofs.DayReply.{day-cases}
@@ -21,19 +22,19 @@ use Rattle.frames.proofs.MonthLineLaws.{written-read}
 
 module _ (c : Calendar) where
   pub month-fits : Lawful c → (w d : ℕ) → c .first 0 ≤ d → d < 16 ^ w → yearOf c (monthOf c d) < 16 ^ 3 → Fits w (shown (monthOfDay c d))
-  unfolding monthOfDay placed
   month-fits ok w d since until admitted =
       let l = monthOf c d in
       let n = yearOf c l in
       let held = day-in-month c ok d since in
       let kind = kind-most c n (l - head c n) in
-      record {
+      rw (month-of-day c d)
+      (record {
         year = omega arith;
         number = omega (arith, kind);
         mark = omega (arith, kind);
         first = omega (arith, held);
         length = omega (arith, ok .month-most l);
-      }
+      })
 
 -- five digits hold the calendar's days
 pub day-fits : (d : ℕ) → earliest ≤ d → d ≤ latest → Fits dayDigits (shown (monthOfDay (calendar shoushi) d))

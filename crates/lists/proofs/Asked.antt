@@ -51,6 +51,11 @@ module _ (e : Epoch) (n room : ℕ) where
   unfolding listReply
   list-answered h g = rw (le-ltb lastYear n h, le-ltb room yearRoom g)
 
+-- and it is the same in every row that has room
+pub list-in-room : (e : Epoch) (n a b : ℕ) → yearRoom ≤ a → yearRoom ≤ b → listReply e n a ≡ listReply e n b
+unfolding listReply
+list-in-room e n a b h g = rw (le-ltb a yearRoom h, le-ltb b yearRoom g)
+
 -- what a reply says, once its case is known
 pub said-as : {reply : Reply ℕ} (got known : Answer) → answerSaid got ≡ reply → got ≡ known → answerSaid known ≡ reply
 said-as got known says case = sym (ap answerSaid case) ∙ says

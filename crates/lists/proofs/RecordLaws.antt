@@ -1,6 +1,5 @@
 -- Laws of records: each is told by its month's kind, a list has one for each month, and each is found in a row that holds the list.
 -- Assumes nothing.
-use mathlib.Core.Bool.{Bool, true, false}
 use mathlib.Core.List.{List, [], _∷_, _++_, append-assoc}
 use mathlib.Core.Logic.{_⊎_, inl, inr}
 use mathlib.Core.Path.{_≡_, refl, ap, ap₂, sym, _∙_}
@@ -8,40 +7,29 @@ use Prim.Native.Nat.{ℕ, zero, suc, _+_, _-_, _*_, _/_, _≤_, _<_}
 use native.Mathlib.Omega.{arith}
 use lib.ListN.{length, getD, drop, length-append, List·getD-append}
 use lib.Seq.{getD-append-add}
-use Rattle.rows.specs.Choice.{if_then_else_}
 use Rattle.rows.specs.Row.{over}
 use Rattle.rows.proofs.Choice.{lt-or-ge}
-use Rattle.month_law.specs.Count.{oneIf}
-use Rattle.month_law.specs.Calendar.{Calendar, lengthOf, head, monthsIn, yearOf, leapAt, numberAt, leapMark}
+use Rattle.month_law.specs.Calendar.{Calendar, lengthOf, head, monthsIn, yearOf, leapMark}
 use Rattle.month_law.specs.Lawful.{Lawful}
 use Rattle.month_law.proofs.Lists.{place-listed, listed-place}
 use Rattle.month_law.proofs.Runs.{year-of}
-use Rattle.months.specs.Kind.{Kind, ordinary, leap, numberIn, markIn}
+use Rattle.months.specs.Kind.{Kind, numberIn, markIn}
 use Rattle.months.specs.Month.{kindAt}
 use Rattle.months.specs.Span.{spanOf, LastBefore, kindBy}
 use Rattle.months.specs.declared.Span.{Span}
 use Rattle.lists.specs.Records.{recordWidth, lengthPlace, markPlace, recordAt, recordOf, recordsOf}
-use Rattle.months.proofs.ByTerm.{year-told, year-is, kind-told}
+use Rattle.months.proofs.ByTerm.{number-in-kind, mark-in-kind, year-told, year-is, kind-told}
 use Rattle.months.proofs.Spans.{first-is, next-is, last-of-month}
 
 -- the record of a month by its two days and its kind
 abbrev pub recordBy : ℕ → ℕ → Kind → List ℕ
 recordBy first next kind = first ∷ (next - first) ∷ numberIn kind ∷ markIn kind ∷ []
 
--- a chosen kind has the number in either case, and its mark tells which
-number-chosen : (t : Bool) (n : ℕ) → numberIn (if t then leap n else ordinary n) ≡ n
-number-chosen true n = refl
-number-chosen false n = refl
-
-mark-chosen : (t : Bool) (n : ℕ) → markIn (if t then leap n else ordinary n) ≡ oneIf t
-mark-chosen true n = refl
-mark-chosen false n = refl
-
 module _ (c : Calendar) where
   -- the record at a place is told by the kind there
   pub by-kind : (n p : ℕ) → recordBy (c .first (head c n + p)) (c .first (suc (head c n + p))) (kindAt c n p) ≡ recordAt c n p
-  unfolding kindAt recordAt
-  by-kind n p = rw (number-chosen (leapAt c n p) (numberAt c n p), mark-chosen (leapAt c n p) (numberAt c n p))
+  unfolding recordAt
+  by-kind n p = rw (number-in-kind c n p, mark-in-kind c n p)
 
   -- a list has one record more for each month
   pub records-more : (n k : ℕ) → recordsOf c n (suc k) ≡ recordsOf c n k ++ recordAt c n k

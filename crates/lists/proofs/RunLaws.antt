@@ -13,7 +13,7 @@ use Rattle.month_law.specs.Calendar.{Calendar, head, monthsIn}
 use Rattle.month_law.specs.Lawful.{Lawful}
 use Rattle.month_law.proofs.Months.{head-rises}
 use Rattle.month_law.proofs.Lists.{months-in-most}
-use Rattle.month_law.proofs.Runs.{monthsFrom, runOf as monthsOfRun, run-is}
+use Rattle.month_law.proofs.Runs.{monthsFrom, monthsOfRun, run-is}
 use Rattle.lists.specs.Records.{recordWidth, yearRoom, recordOf, recordsOf}
 use Rattle.lists.proofs.RecordLaws.{length-records, record-of}
 use Rattle.lists.specs.Lists.{runOf, monthsInRun}

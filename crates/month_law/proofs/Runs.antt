@@ -22,9 +22,9 @@ monthsFrom l k = listed (λ (m : ℕ). m) l k
 
 module _ (c : Calendar) where
   -- the lists of the k years from a on, laid end to end
-  unfoldable pub runOf : ℕ → ℕ → List ℕ
-  runOf a zero = []
-  runOf a (suc k) = runOf a k ++ monthsFrom (head c (a + k)) (monthsIn c (a + k))
+  unfoldable pub monthsOfRun : ℕ → ℕ → List ℕ
+  monthsOfRun a zero = []
+  monthsOfRun a (suc k) = monthsOfRun a k ++ monthsFrom (head c (a + k)) (monthsIn c (a + k))
 
   -- how many leap marks they have
   unfoldable pub leapsFrom : ℕ → ℕ → ℕ
@@ -65,8 +65,8 @@ module _ (c : Calendar) (ok : Lawful c) where
   months-run a b n l p h = places-of (head c) (head-rises c ok) l n a b p h
 
   -- one year more
-  one-more : (a k : ℕ) → runOf c a k ≡ monthsFrom (head c a) (head c (a + k) - head c a)
-      → runOf c a k ++ monthsFrom (head c (a + k)) (monthsIn c (a + k)) ≡ monthsFrom (head c a) (head c (a + suc k) - head c a)
+  one-more : (a k : ℕ) → monthsOfRun c a k ≡ monthsFrom (head c a) (head c (a + k) - head c a)
+      → monthsOfRun c a k ++ monthsFrom (head c (a + k)) (monthsIn c (a + k)) ≡ monthsFrom (head c a) (head c (a + suc k) - head c a)
   one-more a k earlier =
       ap₂ _++_ earlier (ap (λ (l : ℕ). monthsFrom l (monthsIn c (a + k))) (sym here))
       ∙ listed-append (λ (m : ℕ). m) (head c a) (head c (a + k) - head c a) (monthsIn c (a + k))
@@ -82,8 +82,8 @@ module _ (c : Calendar) (ok : Lawful c) where
       long = omega (arith, later, head-rises c ok (a + k), ap (head c) (add-suc a k))
 
   -- laid end to end they are these months in order, each once
-  pub run-is : (a k : ℕ) → runOf c a k ≡ monthsFrom (head c a) (head c (a + k) - head c a)
-  unfolding runOf
+  pub run-is : (a k : ℕ) → monthsOfRun c a k ≡ monthsFrom (head c a) (head c (a + k) - head c a)
+  unfolding monthsOfRun
   run-is a zero =
       let none : head c (a + 0) - head c a ≡ 0 = omega (arith, ap (head c) (add-zero a)) in
       rw (none, listed-none)

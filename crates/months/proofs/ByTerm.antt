@@ -1,9 +1,12 @@
 -- A month's year, number and leap mark by the last middle term before its end.
 -- Assumes nothing.
+use mathlib.Core.Bool.{Bool, true, false}
 use mathlib.Core.Path.{_≡_, refl, ap, sym, _∙_}
 use Prim.Native.Nat.{ℕ, suc, _+_, _-_, _/_, _<_}
 use native.Mathlib.Omega.{arith}
-use Rattle.month_law.specs.Calendar.{Calendar, lengthOf, monthOf, head, monthsIn, yearOf}
+use Rattle.rows.specs.Choice.{if_then_else_}
+use Rattle.month_law.specs.Count.{oneIf}
+use Rattle.month_law.specs.Calendar.{Calendar, lengthOf, monthOf, head, monthsIn, yearOf, leapAt, numberAt, leapMark}
 use Rattle.month_law.specs.Lawful.{Lawful}
 use Rattle.month_law.proofs.Rising.{step-unique}
 use Rattle.month_law.proofs.Months.{mid-rises}
@@ -11,9 +14,27 @@ use Rattle.month_law.proofs.Terms.{lastTerm, lacks-is, last-unique, InList, yea
 use Rattle.month_law.proofs.Lists.{leap-lacks, listed-place}
 use Rattle.month_law.proofs.Numbers.{number-by-term}
 use Rattle.month_law.proofs.Runs.{year-of}
-use Rattle.months.specs.Kind.{Kind}
+use Rattle.months.specs.Kind.{Kind, ordinary, leap, numberIn, markIn}
 use Rattle.months.specs.Month.{MonthOfDay, kindAt, placed, monthOfDay}
 use Rattle.months.specs.Span.{LastBefore, kindBy}
+
+-- the kind at a place has the number there, and its mark tells whether it is leap
+number-chosen : (t : Bool) (n : ℕ) → numberIn (if t then leap n else ordinary n) ≡ n
+number-chosen true n = refl
+number-chosen false n = refl
+
+mark-chosen : (t : Bool) (n : ℕ) → markIn (if t then leap n else ordinary n) ≡ oneIf t
+mark-chosen true n = refl
+mark-chosen false n = refl
+
+module _ (c : Calendar) (n p : ℕ) where
+  pub number-in-kind : numberIn (kindAt c n p) ≡ numberAt c n p
+  unfolding kindAt
+  number-in-kind = number-chosen (leapAt c n p) (numberAt c n p)
+
+  pub mark-in-kind : markIn (kindAt c n p) ≡ leapMark c n p
+  unfolding kindAt
+  mark-in-kind = mark-chosen (leapAt c n p) (numberAt c n p)
 
 module _ (c : Calendar) where
   -- day d of month l, which stands in the list of year n

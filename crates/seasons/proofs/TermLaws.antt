@@ -6,7 +6,7 @@ use mathlib.Core.Logic.{_⊎_, inl, inr}
 use mathlib.Core.Path.{_≡_, ap}
 use Prim.Native.Nat.{ℕ, _+_, _*_, _≤_, _<_}
 use native.Mathlib.Omega.{arith}
-use borrow.Author.Tests.{ne-eqb}
+use borrow.Author.Tests.{ne-eqb, le-ltb}
 use lib.ListN.{length}
 use Rattle.rows.specs.Choice.{_<?_}
 use Rattle.rows.specs.Reply.{Reply, answer, refused, noYear, shortRow}
@@ -40,6 +40,11 @@ pub terms-cases : (P : Reply ℕ → Type 0) (n room : ℕ) → P (refused noYea
 unfolding termsReply
 terms-cases P n room late short all =
     refuse-cases P (lastYear <? n) noYear _ late λ _. refuse-cases P (room <? terms) shortRow _ short λ _. all
+
+-- and is the same in every row that has room
+pub terms-in-room : (n a b : ℕ) → terms ≤ a → terms ≤ b → termsReply n a ≡ termsReply n b
+unfolding termsReply
+terms-in-room n a b h g = rw (le-ltb a terms h, le-ltb b terms g)
 
 pub terms-length : (e : Epoch) (n : ℕ) → length (termList e n) ≡ terms
 unfolding termList

@@ -10,8 +10,9 @@ use Rattle.month_law.proofs.Terms.{InList}
 use Rattle.month_law.proofs.Lists.{months-in-most}
 use Rattle.month_law.proofs.Runs.{year-listed}
 use Rattle.edition.proofs.Edition.{shoushi-lawful}
-use Rattle.months.specs.Month.{MonthOfDay, earliest, latest, placed, monthOfDay, dayReply}
+use Rattle.months.specs.Month.{MonthOfDay, earliest, latest, monthOfDay, dayReply}
 use Rattle.months.proofs.Reach.{month-held}
+use Rattle.months.proofs.ByTerm.{month-of-day}
 use Rattle.months.proofs.Sizes.{kind-most}
 use Rattle.months.proofs.DayReply.{day-cases}
 use Rattle.months.proofs.Dated.{day-admitted}
@@ -32,11 +33,11 @@ module _ (d : ℕ) (since : earliest ≤ d) (until : d ≤ latest) where
   listed = year-listed c shoushi-lawful l
 
   month-fits : FitsDay (monthOfDay c d)
-  unfolding monthOfDay placed
   month-fits =
       let held = month-held d since until in
       let kind = kind-most c n (l - head c n) in
-      record {
+      rw (month-of-day c d)
+      (record {
         first = omega (arith, held);
         year = omega (arith, day-admitted d since until);
         place = omega (arith, listed, months-in-most c shoushi-lawful n);
@@ -44,11 +45,10 @@ module _ (d : ℕ) (since : earliest ≤ d) (until : d ≤ latest) where
         length = omega (arith, shoushi-lawful .month-most l);
         number = omega (arith, kind);
         mark = omega (arith, kind);
-      }
+      })
 
 month-days : (d : ℕ) → 29 ≤ monthOfDay c d .length
-unfolding monthOfDay placed
-month-days d = omega (arith, shoushi-lawful .month-least (monthOf c d))
+month-days d = rw (month-of-day c d) (omega (arith, shoushi-lawful .month-least (monthOf c d)))
 
 abbrev pub ReplyFits : Reply MonthOfDay → Type 0
 ReplyFits (answer m) = FitsDay m × (29 ≤ m .length)
