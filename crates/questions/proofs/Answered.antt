@@ -22,7 +22,7 @@ use Rattle.seasons.specs.Terms.{terms as termsInYear}
 use Rattle.months.specs.Month.{MonthOfDay, monthAnswerSaid}
 use Rattle.months.specs.declared.MonthAnswer.{MonthAnswer}
 use Rattle.lists.specs.Records.{recordWidth, yearRoom}
-use Rattle.questions.specs.DeskReply.{DeskReply, malformed, number, moment, signed, month, name, hour, days, terms, year, years, sheet, asList, listOf, held, mostRecords, Few, Answers}
+use Rattle.questions.specs.DeskReply.{DeskReply, malformed, number, moment, signed, month, name, hour, days, terms, year, years, sheet, asList, listOf, listIn, mostRecords, Few, Answers}
 use Rattle.questions.specs.declared.DeskAnswer.{DeskAnswer}
 use Rattle.questions.specs.declared.DeskAnswer.the-variants.{Malformed, Number, Moment, Signed, Month, Name as NameOf, Hour, Days, Terms, Year, Years, Sheet}
 
@@ -70,7 +70,7 @@ Long w most reply list = (k : ℕ) → reply ≡ answer k → (length list ≡ w
 
 -- a row that holds such a list
 module _ (list before after : List ℕ) where
-  in-row : (w most : ℕ) (reply : Reply ℕ) → Long w most reply list → after ≡ rowAfter reply list before → held w reply after ≡ asList reply list
+  in-row : (w most : ℕ) (reply : Reply ℕ) → Long w most reply list → after ≡ rowAfter reply list before → listIn w reply after ≡ asList reply list
   in-row w most (answer k) long e = ap answer (written list before after (w * k) (long k refl .0) e)
   in-row w most (refused k) long e = refl
 
@@ -84,8 +84,8 @@ module _ (list before after : List ℕ) where
   lies-in w most (refused k) long e = tt
 
   module _ (a : Answer) (reply : Reply ℕ) (e : answerSaid a ≡ reply) (row : after ≡ rowAfter reply list before) where
-    held-as : (w most : ℕ) → Long w most reply list → held w (answerSaid a) after ≡ asList reply list
-    held-as w most long = ap (λ (r : Reply ℕ). held w r after) e ∙ in-row w most reply long row
+    held-as : (w most : ℕ) → Long w most reply list → listIn w (answerSaid a) after ≡ asList reply list
+    held-as w most long = ap (λ (r : Reply ℕ). listIn w r after) e ∙ in-row w most reply long row
 
     lies-as : (w most : ℕ) → Long w most reply list → Few w most (answerSaid a) (length after)
     lies-as w most long = rw e (lies-in w most reply long row)

@@ -15,7 +15,7 @@ use Rattle.signed.proofs.Unique.{signedMeant, signed-back}
 use Rattle.remainders.proofs.Unique.{hourMeant, hour-back, daysMeant, days-back}
 use Rattle.months.proofs.Unique.{answerMeant as monthMeant, answer-back as month-back}
 use Rattle.lists.specs.Records.{recordWidth}
-use Rattle.questions.specs.DeskReply.{DeskReply, malformed, number, moment, signed, month, name, hour, days, terms, year, years, sheet, constants, help, held, deskSaid, Few, Lies}
+use Rattle.questions.specs.DeskReply.{DeskReply, malformed, number, moment, signed, month, name, hour, days, terms, year, years, sheet, constants, help, listIn, deskSaid, Few, Lies}
 use Rattle.questions.specs.declared.DeskAnswer.{DeskAnswer}
 use Rattle.questions.specs.declared.DeskAnswer.the-variants.{Malformed, Number, Moment, Signed, Month, Name, Hour, Days, Terms, Year, Years, Sheet, Constants, Help}
 use Rattle.questions.proofs.ask.Kinds as ask
@@ -26,7 +26,7 @@ counted : ℕ → Reply (List ℕ) → Answer
 counted w (answer list) = Counted (length list / w)
 counted w (refused k) = Refused k
 
-counted-back : (w most : ℕ) (a : Answer) (row : List ℕ) → 0 < w → Few w most (answerSaid a) (length row) → counted w (held w (answerSaid a) row) ≡ a
+counted-back : (w most : ℕ) (a : Answer) (row : List ℕ) → 0 < w → Few w most (answerSaid a) (length row) → counted w (listIn w (answerSaid a) row) ≡ a
 unfolding counted
 counted-back w most (Counted k) row h few =
     ap Counted (ap (λ (n : ℕ). n / w) (length-take-le (w * k) row (few .1)) ∙ mul-div-cancel-left k h)

@@ -71,9 +71,9 @@ numbersFor constants = []
 numbersFor help = []
 
 -- the list that a row holds from its start, with w numbers for each of so many
-abbrev pub held : ℕ → Reply ℕ → List ℕ → Reply (List ℕ)
-held w (answer k) row = answer (take (w * k) row)
-held w (refused k) row = refused k
+abbrev pub listIn : ℕ → Reply ℕ → List ℕ → Reply (List ℕ)
+listIn w (answer k) row = answer (take (w * k) row)
+listIn w (refused k) row = refused k
 
 -- the reply that each case stands for
 abbrev pub deskSaid : DeskAnswer → List ℕ → DeskReply
@@ -85,10 +85,10 @@ deskSaid (Month a) row = month (monthAnswerSaid a)
 deskSaid (NameOf n) row = name n
 deskSaid (Hour h) row = hour (hourSaid h)
 deskSaid (Days d) row = days (daysSaid d)
-deskSaid (Terms a) row = terms (held 1 (answerSaid a) row)
-deskSaid (Year a) row = year (held recordWidth (answerSaid a) row)
-deskSaid (Years a) row = years (held recordWidth (answerSaid a) row)
-deskSaid (Sheet a) row = sheet (held 1 (answerSaid a) row)
+deskSaid (Terms a) row = terms (listIn 1 (answerSaid a) row)
+deskSaid (Year a) row = year (listIn recordWidth (answerSaid a) row)
+deskSaid (Years a) row = years (listIn recordWidth (answerSaid a) row)
+deskSaid (Sheet a) row = sheet (listIn 1 (answerSaid a) row)
 deskSaid Constants row = constants
 deskSaid Help row = help
 

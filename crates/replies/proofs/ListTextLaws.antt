@@ -16,7 +16,7 @@ use Rattle.texts.specs.Text.{piece, numbersTaken, filled}
 use Rattle.texts.proofs.TextLaws.{holes, holes-append, filled-append, filled-enough}
 use Rattle.questions.specs.DeskReply.{Few}
 use Rattle.replies.specs.LineText.{blankHoles, numberHoles, numbersText}
-use Rattle.replies.specs.ListText.{listText, numberHole, recordHoles, recordsHoles, recordsText, Fits}
+use Rattle.replies.specs.ListText.{listText, numberHole, recordHoles, recordsHoles, recordsText, HasRoom}
 
 -- a template takes no more numbers than it has holes
 filled-first : (t ns : List ℕ) (k : ℕ) → holes t ≤ k → k ≤ length ns → filled t ns ≡ filled t (take k ns)
@@ -124,10 +124,10 @@ records-ended k ns fits =
     ∙ ap (λ (j : ℕ). filled (recordsHoles j ++ bytesOf "\n") (take (recordWidth * k) ns)) (sym all)
 
 -- a list of not more than so many has room in a row that has room for so many
-pub few-fit : (w each most : ℕ) (r : Reply ℕ) (numbers bytes : ℕ) → Few w most r numbers → each * most + 100 ≤ bytes → Fits w each r numbers bytes
+pub few-fit : (w each most : ℕ) (r : Reply ℕ) (numbers bytes : ℕ) → Few w most r numbers → each * most + 100 ≤ bytes → HasRoom w each r numbers bytes
 few-fit w each most (answer k) numbers bytes few room = (few .1, omega (arith, mul-le-mul-left each (few .0)))
 few-fit w each most (refused k) numbers bytes few room = tt
 
-pub case-fits : (w each numbers bytes : ℕ) {a case : Answer} → a ≡ case → Fits w each (answerSaid a) numbers bytes
-    → Fits w each (answerSaid case) numbers bytes
+pub case-fits : (w each numbers bytes : ℕ) {a case : Answer} → a ≡ case → HasRoom w each (answerSaid a) numbers bytes
+    → HasRoom w each (answerSaid case) numbers bytes
 case-fits w each numbers bytes e h = rw e at h

@@ -47,6 +47,6 @@ abbrev pub yearsRoom : ℕ
 yearsRoom = 2_097_152
 
 -- a list lies in a row of so many numbers, with w for each of so many, and its line has room in a row of so many bytes
-abbrev pub Fits : ℕ → ℕ → Reply ℕ → ℕ → ℕ → Type 0
-Fits w each (answer k) numbers bytes = (w * k ≤ numbers) × (each * k + 100 ≤ bytes)
-Fits w each (refused k) numbers bytes = Unit {0}
+abbrev pub HasRoom : ℕ → ℕ → Reply ℕ → ℕ → ℕ → Type 0
+HasRoom w each (answer k) numbers bytes = (w * k ≤ numbers) × (each * k + 100 ≤ bytes)
+HasRoom w each (refused k) numbers bytes = Unit {0}

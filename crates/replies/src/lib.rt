@@ -7,7 +7,7 @@ use crate::line_texts::put_hour;
 use crate::line_texts::put_moment;
 use crate::line_texts::put_month;
 use crate::line_texts::put_name;
-use crate::line_texts::put_number;
+use crate::line_texts::put_one;
 use crate::line_texts::put_refusal;
 use crate::line_texts::put_signed;
 use crate::list_texts::put_list;
@@ -108,7 +108,7 @@ fn put_reply(r: DeskAnswer, numbers: &[u64], row: &mut [u8]) -> usize
 {
     match r {
         DeskAnswer::Malformed => put_refusal(BAD_LINE, row),
-        DeskAnswer::Number(a) => put_number(a, row),
+        DeskAnswer::Number(a) => put_one(a, row),
         DeskAnswer::Moment(a) => put_moment(a, row),
         DeskAnswer::Signed(a) => put_signed(a, row),
         DeskAnswer::Month(a) => put_month(a, row),

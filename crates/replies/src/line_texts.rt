@@ -26,7 +26,7 @@ pub(crate) fn put_refusal(k: u64, row: &mut [u8]) -> usize
     fill(b"refused %\n", &[k], row)
 }
 
-pub(crate) fn put_number(a: Answer, row: &mut [u8]) -> usize
+pub(crate) fn put_one(a: Answer, row: &mut [u8]) -> usize
     requires { ⌜ lineRoom ≤ length (now row) ⌝ }
     ensures { λ n. ⌜ n ≡ length (textOf numberText (answerSaid a)) ⌝ }
     ensures { λ _. ⌜ now (row .exit) ≡ over (textOf numberText (answerSaid a)) (now (row .entry)) ⌝ }

@@ -10,24 +10,24 @@ ghost use Rattle.rows.specs.Row.{over};
 ghost use Rattle.rows.specs.Reply.{answerSaid};
 ghost use Rattle.lists.specs.Records.{recordWidth};
 ghost use Rattle.texts.specs.Text.{filled};
-ghost use Rattle.questions.specs.DeskReply.{held};
+ghost use Rattle.questions.specs.DeskReply.{listIn};
 ghost use Rattle.replies.specs.LineText.{textOf, lineRoom};
-ghost use Rattle.replies.specs.ListText.{numberHole, listText, recordHoles, recordsText, numberRoom, recordRoom, Fits};
+ghost use Rattle.replies.specs.ListText.{numberHole, listText, recordHoles, recordsText, numberRoom, recordRoom, HasRoom};
 
 // So many numbers, or the refusal.
 pub(crate) fn put_list(a: Answer, numbers: &[u64], row: &mut [u8]) -> usize
-    requires { ⌜ (lineRoom ≤ length (now row)) × Fits 1 numberRoom (answerSaid a) (length (now numbers)) (length (now row)) ⌝ }
-    ensures { λ r. ⌜ r ≡ length (textOf listText (held 1 (answerSaid a) (now (numbers .entry)))) ⌝ }
-    ensures { λ _. ⌜ now (row .exit) ≡ over (textOf listText (held 1 (answerSaid a) (now (numbers .entry)))) (now (row .entry)) ⌝ }
+    requires { ⌜ (lineRoom ≤ length (now row)) × HasRoom 1 numberRoom (answerSaid a) (length (now numbers)) (length (now row)) ⌝ }
+    ensures { λ r. ⌜ r ≡ length (textOf listText (listIn 1 (answerSaid a) (now (numbers .entry)))) ⌝ }
+    ensures { λ _. ⌜ now (row .exit) ≡ over (textOf listText (listIn 1 (answerSaid a) (now (numbers .entry)))) (now (row .entry)) ⌝ }
 {
     match a {
         Answer::Refused(k) => put_refusal(k, row),
-        Answer::Number(count) => put_numbers(count as usize, numbers, row),
+        Answer::Number(count) => put_each(count as usize, numbers, row),
     }
 }
 
 // So many numbers with single blanks between them, and the line end.
-fn put_numbers(count: usize, numbers: &[u64], row: &mut [u8]) -> usize
+fn put_each(count: usize, numbers: &[u64], row: &mut [u8]) -> usize
     requires { ⌜ (count ≤ length (now numbers)) × (numberRoom * count + 100 ≤ length (now row)) ⌝ }
     ensures { λ r. ⌜ r ≡ length (listText (take count (now (numbers .entry)))) ⌝ }
     ensures { λ _. ⌜ now (row .exit) ≡ over (listText (take count (now (numbers .entry)))) (now (row .entry)) ⌝ }
@@ -61,9 +61,9 @@ fn put_at(i: usize, numbers: &[u64], row: &mut [u8]) -> usize
 
 // So many months, or the refusal.
 pub(crate) fn put_months(a: Answer, numbers: &[u64], row: &mut [u8]) -> usize
-    requires { ⌜ (lineRoom ≤ length (now row)) × Fits recordWidth recordRoom (answerSaid a) (length (now numbers)) (length (now row)) ⌝ }
-    ensures { λ r. ⌜ r ≡ length (textOf recordsText (held recordWidth (answerSaid a) (now (numbers .entry)))) ⌝ }
-    ensures { λ _. ⌜ now (row .exit) ≡ over (textOf recordsText (held recordWidth (answerSaid a) (now (numbers .entry)))) (now (row .entry)) ⌝ }
+    requires { ⌜ (lineRoom ≤ length (now row)) × HasRoom recordWidth recordRoom (answerSaid a) (length (now numbers)) (length (now row)) ⌝ }
+    ensures { λ r. ⌜ r ≡ length (textOf recordsText (listIn recordWidth (answerSaid a) (now (numbers .entry)))) ⌝ }
+    ensures { λ _. ⌜ now (row .exit) ≡ over (textOf recordsText (listIn recordWidth (answerSaid a) (now (numbers .entry)))) (now (row .entry)) ⌝ }
 {
     match a {
         Answer::Refused(k) => put_refusal(k, row),

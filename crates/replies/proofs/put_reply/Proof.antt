@@ -58,7 +58,7 @@ returns c = let put = c .before .before in case-told _ (put .before .before .enu
 
 returns-2 : tie.Need-returns-2
 unfolding replyText
-returns-2 c = let put = c .before .before in case-told _ (put .before .before .before .r .given .1) _ (put .put-number .ensures)
+returns-2 c = let put = c .before .before in case-told _ (put .before .before .before .r .given .1) _ (put .put-one .ensures)
 
 returns-3 : tie.Need-returns-3
 unfolding replyText

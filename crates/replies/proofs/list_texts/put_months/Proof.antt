@@ -5,7 +5,7 @@ use denote.Ref.{now}
 use Rattle.rows.specs.Reply.{answerSaid}
 use Rattle.rows.specs.declared.Answer.{Answer}
 use Rattle.lists.specs.Records.{recordWidth}
-use Rattle.questions.specs.DeskReply.{held}
+use Rattle.questions.specs.DeskReply.{listIn}
 use Rattle.replies.specs.ListText.{recordsText, recordRoom}
 use Rattle.replies.proofs.LineTextLaws.{told-so, case-text}
 use Rattle.replies.proofs.ListTextLaws.{case-fits}
@@ -23,7 +23,7 @@ returns c =
     let put = c .before .before in
     let at = put .before .before .before in
     let a = at .before .before .before .before .args in
-    told-so (now (a .row)) (case-text (λ (x : Answer). held recordWidth (answerSaid x) (now (a .numbers))) recordsText (at .a .given .1)) (put .put-refusal .ensures)
+    told-so (now (a .row)) (case-text (λ (x : Answer). listIn recordWidth (answerSaid x) (now (a .numbers))) recordsText (at .a .given .1)) (put .put-refusal .ensures)
 
 returns-2 : tie.Need-returns-2
 returns-2 c =
@@ -31,7 +31,7 @@ returns-2 c =
     let at = put .before .before .before in
     let a = at .before .before .before .before .args in
     told-so (now (a .row))
-    (case-text (λ (x : Answer). held recordWidth (answerSaid x) (now (a .numbers))) recordsText (at .a2 .given .1))
+    (case-text (λ (x : Answer). listIn recordWidth (answerSaid x) (now (a .numbers))) recordsText (at .a2 .given .1))
     (put .put-records .ensures)
 
 pub put-months-spec : {M : Type 1} → statement M

@@ -1,4 +1,4 @@
--- `replies::list_texts::put_records` meets its contract: after i turns the row holds i of them, and past them what it held. Assumes nothing.
+-- `replies::list_texts::put_records` meets its contract: after i turns the row holds i of them, and past them what it listIn. Assumes nothing.
 use mathlib.Core.List.{List, [], _∷_, _++_}
 use mathlib.Core.Path.{_≡_, _∙_, refl, sym, ap}
 use Prim.Native.Nat.{ℕ, _+_, _-_, _*_, _≤_}

@@ -1,4 +1,4 @@
--- `replies::list_texts::put_numbers` meets its contract: after i turns the row holds i of them, and past them what it held. Assumes nothing.
+-- `replies::list_texts::put_each` meets its contract: after i turns the row holds i of them, and past them what it listIn. Assumes nothing.
 use mathlib.Core.List.{List, [], _∷_, _++_}
 use mathlib.Core.Path.{_≡_, _∙_, refl, sym, ap}
 use Prim.Native.Nat.{ℕ, _+_, _-_, _*_, _≤_}
@@ -14,8 +14,8 @@ use Rattle.replies.specs.LineText.{numberHoles}
 use Rattle.replies.proofs.LineTextLaws.{told-so}
 use Rattle.replies.specs.ListText.{listText, numberHole, numberRoom}
 use Rattle.replies.proofs.ListTextLaws.{number-more, no-numbers, numbers-ended}
-use Rattle.replies.proofs.list_texts.put_numbers.Statement.{statement}
-use Rattle.replies.proofs.list_texts.put_numbers.Tie as tie
+use Rattle.replies.proofs.list_texts.put_each.Statement.{statement}
+use Rattle.replies.proofs.list_texts.put_each.Tie as tie
 
 abbrev Inv-loop : tie.InvT-loop
 Inv-loop count numbers row₀ used₀ i₀ row used i =
@@ -79,6 +79,6 @@ returns-2 c =
       put done (now (a .row)) (at .loop .row) 10 (at .loop .used) (at .loop .inv .4) (sym (at .loop .inv .3)) (omega arith),
     )
 
-pub put-numbers-spec : {M : Type 1} → statement M
-put-numbers-spec =
+pub put-each-spec : {M : Type 1} → statement M
+put-each-spec =
     tie.close (tie.spec Inv-loop μ-loop (λ c. omega arith) (λ c. omega arith) (λ c. omega arith) (λ c. omega arith) returns loop-holds (λ c. omega arith) (λ c. omega arith) (λ c. omega arith) (λ c. omega arith) (λ c. omega arith) (λ c. omega arith) (λ c. omega arith) put-at-requires (λ c. omega arith) (λ c. omega arith) (λ c. omega arith) loop-again (λ c. omega arith) (λ c. omega arith) same-length-2 returns-2)
