@@ -80,7 +80,4 @@ same-length c =
 pub put-month-line-spec : {M : Type 1} → statement M
 put-month-line-spec =
     tie.close
-    (tie.spec (search needs) (search needs) (search needs) (search needs) (search needs) (search needs) (search needs)
-    (search needs) (search needs) (search needs) (search needs) (search needs) (search needs) (search needs) (search needs)
-    (search needs) (search needs) (search needs) (search needs) (search needs) (search needs) (search needs) (search needs)
-    same-length returns)
+    (tie.spec (search needs) (search needs) (λ c. omega arith) (λ c. omega arith) (λ c. omega arith) (search needs) (search needs) (λ c. omega arith) (λ c. omega arith) (λ c. omega arith) (search needs) (λ c. omega arith) (λ c. omega arith) (λ c. omega arith) (search needs) (λ c. omega arith) (λ c. omega arith) (λ c. omega arith) (λ c. omega arith) (search needs) (λ c. omega arith) (λ c. omega arith) (λ c. omega arith) same-length returns)
