@@ -2,13 +2,17 @@
 use borrow.Author.Needs.{needs}
 use mathlib.Core.Bool.{false}
 use mathlib.Core.Path.{_≡_, _∙_, sym, ap}
-use Prim.Native.Nat.{ℕ}
+use Prim.Native.Nat.{ℕ, suc}
+use native.Mathlib.Omega.{arith}
 use denote.Ref.{now}
+use Rattle.measure.specs.Units.{lastYear}
 use Rattle.measure.specs.Epoch.{shoushi}
 use Rattle.words.specs.Line.{wordOf}
 use Rattle.words.specs.Text.{_is_}
 use Rattle.questions.specs.Question.{replyTo}
-use Rattle.replies.proofs.AnswerLaws.{enough, answered-as}
+use Rattle.questions.proofs.Rooms.{enough}
+use Rattle.replies.specs.AnswerText.{mostNumbers}
+use Rattle.replies.proofs.AnswerLaws.{answered-as}
 use Rattle.replies.proofs.write_answer.Statement.{statement}
 use Rattle.replies.proofs.write_answer.Tie as tie
 
@@ -39,7 +43,7 @@ returns-2 c =
     let line = now (a .line) in
     let other : (wordOf line is "years") ≡ false = sym (at .before .asks-years .ensures) ∙ at .if1 .left in
     answered-as line (now (a .row)) (put .write-reply2 .result)
-    (got .ask2 .ensures .said ∙ ap (λ (n : ℕ). replyTo shoushi n line) (sym (made .year-numbers .ensures)) ∙ enough line other)
+    (got .ask2 .ensures .said ∙ ap (λ (n : ℕ). replyTo shoushi n line) (sym (made .year-numbers .ensures)) ∙ enough (suc lastYear) mostNumbers (omega arith) (omega arith) line other)
     (put .write-reply2 .ensures)
 
 pub write-answer-spec : {M : Type 1} → statement M
