@@ -9,11 +9,13 @@ use lib.ListN.{length}
 use Rattle.rows.specs.Choice.{if_then_else_, _<?_, _=?_}
 use Rattle.rows.specs.Reply.{Reply, answer, refused, shortRow, refuseIf}
 use Rattle.measure.specs.Epoch.{shoushi}
+use Rattle.questions.specs.Question.{replyTo}
 use Rattle.replies.specs.ListText.{yearsRoom}
-use Rattle.replies.specs.AnswerText.{answerText, answerRoom, answerReply}
-use Rattle.replies.proofs.AnswerLaws.{answered-whole}
+use Rattle.replies.specs.ReplyText.{replyText, roomOf}
+use Rattle.ask.specs.AnswerText.{mostNumbers, replyReply, answerText, answerReply}
 use Rattle.ask.specs.Written.{writtenTold}
 use Rattle.ask.specs.declared.Written.{Written}
+use Rattle.ask.proofs.AnswerLaws.{answered-whole}
 
 -- what a struct says
 unfoldable pub writtenRead : Written → Reply ℕ
@@ -25,8 +27,10 @@ by-room true n = refl
 by-room false n = refl
 
 pub ask-back : (line : List ℕ) (room : ℕ) → writtenRead (writtenTold (answerReply shoushi line room)) ≡ answerReply shoushi line room
-unfolding answerReply
-ask-back line room = by-room (room <? answerRoom shoushi line) (length (answerText shoushi line))
+unfolding answerReply replyReply
+ask-back line room =
+    let told = replyTo shoushi mostNumbers line in
+    by-room (room <? roomOf told) (length (replyText told))
 
 pub ask-whole : (line : List ℕ) (room : ℕ) → yearsRoom ≤ room
     → writtenTold (answerReply shoushi line room) ≡ writtenTold (answer (length (answerText shoushi line)))

@@ -1,1 +1,2 @@
+pub mod AnswerText
 pub mod Written

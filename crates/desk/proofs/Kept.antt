@@ -10,7 +10,7 @@ use lib.Seq.{take-suc, length-take-le}
 use Rattle.frames.specs.LineEnds.{lineEnd}
 use Rattle.rows.specs.Row.{over}
 use Rattle.measure.specs.Epoch.{shoushi}
-use Rattle.replies.specs.AnswerText.{answerText}
+use Rattle.ask.specs.AnswerText.{answerText}
 use Rattle.desk.specs.Input.{withByte, keptAfter, lastText}
 
 -- the first bytes of a row, written over it, leave it as it was

@@ -9,7 +9,7 @@ use lib.ListN.{length, take}
 use Rattle.rows.specs.Choice.{if_then_else_, _<?_, _=?_}
 use Rattle.measure.specs.Epoch.{shoushi}
 use Rattle.frames.specs.LineEnds.{lineEnd}
-use Rattle.replies.specs.AnswerText.{answerText}
+use Rattle.ask.specs.AnswerText.{answerText}
 use Rattle.desk.specs.declared.Turn.{Turn}
 use Rattle.desk.specs.declared.Turn.the-variants.{Begun, Ended, CutShort}
 use Rattle.desk.specs.declared.Asked.{Asked}

@@ -1,12 +1,11 @@
 // The desk: answers the calendar's questions, from its arguments as one line when it has any, else one a line from standard input.
 // The input comes by blocks, and each line is answered as it ends.
+use ask::YEARS_ROOM;
 use frames::LINE_END;
 use libc::STDERR_FILENO;
 use libc::STDIN_FILENO;
 use libc::STDOUT_FILENO;
 use reads::Got;
-use replies::YEARS_ROOM;
-use rows::Answer;
 ghost use mathlib.Core.Path.{_≡_};
 ghost use Prim.Native.Nat.{_+_, _≤_, _<_};
 ghost use lib.ListN.{length, take};
@@ -15,7 +14,7 @@ ghost use Rattle.measure.specs.Epoch.{shoushi};
 ghost use Rattle.reads.specs.Given.{Within};
 ghost use Rattle.questions.specs.Question.{longest};
 ghost use Rattle.replies.specs.ListText.{yearsRoom};
-ghost use Rattle.replies.specs.AnswerText.{answerText};
+ghost use Rattle.ask.specs.AnswerText.{answerText};
 ghost use Rattle.desk.specs.Input.{withMore, lastText, Left, withBlank, withArgument, Begins, AskedBy};
 
 // How a turn ends: with so many bytes kept of a line that was begun, at the input's end, or by a failed write.
@@ -32,10 +31,8 @@ fn answered(line: &[u8], buf: &mut [u8]) -> usize
     ensures { λ r. ⌜ r ≡ length (answerText shoushi (now (line .entry))) ⌝ }
     ensures { λ _. ⌜ now (buf .exit) ≡ over (answerText shoushi (now (line .entry))) (now (buf .entry)) ⌝ }
 {
-    let Answer::Number(n) = replies::write_answer(line, buf) else {
-        return 0;
-    };
-    n as usize
+    let written = ask::lengadriu_ask(line, buf);
+    written.bytes as usize
 }
 
 // Writes out; whether all of it went through. Where it did not, standard error says so, since a program has no exit status.

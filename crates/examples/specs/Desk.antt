@@ -31,7 +31,7 @@ use Rattle.texts.specs.Text.{decimalIn, decimal, piece, numbersTaken, filled}
 use Rattle.replies.specs.LineText.{blankHoles, numberHoles, refusalText, numbersText, daysText, signedText, monthText, momentText}
 use Rattle.replies.specs.ListText.{listText, recordHoles, recordsHoles, recordsText}
 use Rattle.replies.specs.ReplyText.{constantsText, helpText, replyText}
-use Rattle.replies.specs.AnswerText.{mostNumbers}
+use Rattle.ask.specs.AnswerText.{mostNumbers}
 use Rattle.month_law.specs.Calendar.{monthsIn}
 use Rattle.edition.specs.Edition.{calendar}
 use Rattle.lists.specs.Records.{recordsOf}

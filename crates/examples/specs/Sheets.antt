@@ -35,7 +35,7 @@ use Rattle.questions.specs.MarkWords.{showing, markOf, afterMark, marksWithin, 
 use Rattle.replies.specs.ListText.{listText}
 use Rattle.questions.specs.Question.{alone, replyTo}
 use Rattle.replies.specs.ReplyText.{replyText}
-use Rattle.replies.specs.AnswerText.{answerText}
+use Rattle.ask.specs.AnswerText.{answerText}
 
 -- the first days of year 0 are 35, 64 and 94; its month at place 10 begins with day 329 and is leap, that before it is not
 year-0 :

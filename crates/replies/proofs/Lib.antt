@@ -1,5 +1,4 @@
 pub mod LineTextLaws
 pub mod ListTextLaws
 pub mod ReplyLaws
-pub mod AnswerLaws
 pub mod Unique

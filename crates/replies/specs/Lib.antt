@@ -1,4 +1,3 @@
 pub mod LineText
 pub mod ListText
 pub mod ReplyText
-pub mod AnswerText

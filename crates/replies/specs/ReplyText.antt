@@ -2,9 +2,7 @@
 -- Assumes nothing.
 use mathlib.Core.List.{List, [], _∷_}
 use Prim.Native.Nat.{ℕ}
-use lib.ListN.{length}
-use Rattle.rows.specs.Choice.{_<?_}
-use Rattle.rows.specs.Reply.{Reply, answer, shortRow, badLine, refuseIf}
+use Rattle.rows.specs.Reply.{badLine}
 use Rattle.measure.specs.Units.{day as oneDay, fen, miao, year as solarYear, halfYear, month as lunarMonth, quarterStep, termStep, pentadStep, earthStep, anomalisticMonth, anomalisticHalf}
 use Rattle.measure.specs.Epoch.{shoushi}
 use Rattle.words.specs.Ascii.{bytesOf}
@@ -55,7 +53,3 @@ roomOf (years r) = yearsRoom
 roomOf (sheet r) = sheetRoom
 roomOf constants = lineRoom
 roomOf help = lineRoom
-
--- how many bytes are written, where the row has room for so many
-unfoldable pub replyReply : DeskReply → ℕ → Reply ℕ
-replyReply r room = refuseIf (room <? roomOf r) shortRow (answer (length (replyText r)))

@@ -1,12 +1,12 @@
--- `replies::asks_years` meets its contract. Assumes nothing.
+-- `ask::asks_years` meets its contract. Assumes nothing.
 use borrow.Author.Needs.{needs}
 use mathlib.Core.List.{List}
 use mathlib.Core.Path.{_∙_, sym, ap}
 use Prim.Native.Nat.{ℕ}
 use Rattle.words.specs.Text.{_is_}
 use Rattle.words.proofs.Same.{same-answer}
-use Rattle.replies.proofs.asks_years.Statement.{statement}
-use Rattle.replies.proofs.asks_years.Tie as tie
+use Rattle.ask.proofs.asks_years.Statement.{statement}
+use Rattle.ask.proofs.asks_years.Tie as tie
 
 returns : tie.Need-returns
 returns c =

@@ -1,4 +1,4 @@
--- `replies::room_for` meets its contract. Assumes nothing.
+-- `ask::room_for` meets its contract. Assumes nothing.
 use borrow.Author.Needs.{needs}
 use mathlib.Core.List.{List, [], _∷_}
 use mathlib.Core.Path.{_≡_, refl}
@@ -9,10 +9,10 @@ use Rattle.questions.proofs.DeskAnswer.{the-type}
 use Rattle.questions.specs.DeskReply.{deskSaid}
 use Rattle.questions.specs.declared.DeskAnswer.{DeskAnswer}
 use Rattle.questions.specs.declared.DeskAnswer.the-variants.{Malformed, Number, Moment, Signed, Month, Name, Hour, Days, Terms, Year, Years, Sheet, Constants, Help}
 use Rattle.replies.specs.LineText.{lineRoom}
 use Rattle.replies.specs.ReplyText.{roomOf}
-use Rattle.replies.proofs.room_for.Statement.{statement}
-use Rattle.replies.proofs.room_for.Tie as tie
+use Rattle.ask.proofs.room_for.Statement.{statement}
+use Rattle.ask.proofs.room_for.Tie as tie
 
 returns : tie.Need-returns
 unfolding roomOf

@@ -1,17 +1,19 @@
--- `replies::write_reply` meets its contract. Assumes nothing.
+-- `ask::write_reply` meets its contract. Assumes nothing.
 use borrow.Author.Needs.{needs}
 use borrow.Author.Tests.{lt-ltb, le-ltb}
 use mathlib.Core.Path.{ap}
-use Prim.Native.Nat.{_≤_, _<_}
+use Prim.Native.Nat.{ℕ, _≤_, _<_}
 use native.Mathlib.Omega.{arith}
 use denote.Ref.{now}
 use lib.ListN.{length}
 use Rattle.rows.specs.Reply.{answer}
 use Rattle.questions.specs.DeskReply.{deskSaid}
-use Rattle.replies.specs.ReplyText.{roomOf, replyReply}
+use Rattle.replies.specs.ReplyText.{roomOf}
+use Rattle.ask.specs.AnswerText.{replyReply}
+use Rattle.ask.specs.Written.{writtenTold}
 use Rattle.replies.proofs.ReplyLaws.{room-between}
-use Rattle.replies.proofs.write_reply.Statement.{statement}
-use Rattle.replies.proofs.write_reply.Tie as tie
+use Rattle.ask.proofs.write_reply.Statement.{statement}
+use Rattle.ask.proofs.write_reply.Tie as tie
 
 returns : tie.Need-returns
 unfolding replyReply
@@ -36,7 +38,7 @@ returns-2 c =
     let asked = put .before .before .before in
     let a = asked .before .before .before .args in
     let room : roomOf (deskSaid (a .r) (now (a .numbers))) ≤ length (now (a .row)) = omega (arith, asked .room-for .ensures (now (a .numbers))) in
-    (simp (le-ltb _ _ room) (ap answer (put .put-reply .ensures .0)), simp (le-ltb _ _ room) (put .put-reply .ensures .1))
+    (simp (le-ltb _ _ room) (ap (λ (n : ℕ). writtenTold (answer n)) (put .put-reply .ensures .0)), simp (le-ltb _ _ room) (put .put-reply .ensures .1))
 
 pub write-reply-spec : {M : Type 1} → statement M
 write-reply-spec =
