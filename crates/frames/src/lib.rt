@@ -56,16 +56,24 @@ pub fn put_month_line(m: Month, w: usize, out: &mut [u8]) -> usize
     ensures { λ r. ⌜ r ≡ monthDigits w + 1 ⌝ }
     ensures { λ _. ⌜ now (out .exit) ≡ over (monthLine w (shown (monthSaid m)) ++ (lineEnd ∷ [])) (now (out .entry)) ⌝ }
 {
-    let kind = m.kind;
-    put_digits(m.year, 3, out);
-    put_digits(month_number(kind), 1, &mut out[3..]);
-    put_digits(leap_mark(kind), 1, &mut out[4..]);
+    put_month_name(m, out);
     put_digits(m.first, w, &mut out[5..]);
     let end = 5 + w;
     put_digits(m.length, 2, &mut out[end..]);
     let n = end + 2;
     out[n] = LINE_END;
     n + 1
+}
+
+// The five digits with which it starts: year, number and leap mark.
+fn put_month_name(m: Month, out: &mut [u8])
+    requires { ⌜ (5 ≤ length (now out)) × (shown (monthSaid m) .year < 16 ^ 3) × (shown (monthSaid m) .number < 16 ^ 1) × (shown (monthSaid m) .mark < 16 ^ 1) ⌝ }
+    ensures { λ _. ⌜ now (out .exit) ≡ over (digitsOf 3 (shown (monthSaid m) .year) ++ digitsOf 1 (shown (monthSaid m) .number) ++ digitsOf 1 (shown (monthSaid m) .mark)) (now (out .entry)) ⌝ }
+{
+    let kind = m.kind;
+    put_digits(m.year, 3, out);
+    put_digits(month_number(kind), 1, &mut out[3..]);
+    put_digits(leap_mark(kind), 1, &mut out[4..]);
 }
 
 // A refusal's line, whose number is one digit; how many bytes it has.
