@@ -28,8 +28,8 @@ use lib.IntN.{pos, negsuc}
 use Rattle.rows.specs.Reply.{answer, refused}
 use Rattle.months.specs.Kind.{leap}
 use Rattle.texts.specs.Text.{decimalIn, decimal, piece, numbersTaken, filled}
-use Rattle.replies.specs.LineText.{blankHoles, numberHoles, refusalText, numbersText, daysText, signedText, monthText, momentText}
-use Rattle.replies.specs.ListText.{listText, recordHoles, recordsHoles, recordsText}
+use Rattle.replies.specs.LineText.{itemAt, itemsOf, refusalText, numbersText, daysText, signedText, monthText, momentText}
+use Rattle.replies.specs.ListText.{itemsText, recordsText}
 use Rattle.replies.specs.ReplyText.{constantsText, helpText, replyText}
 use Rattle.ask.specs.AnswerText.{mostNumbers}
 use Rattle.month_law.specs.Calendar.{monthsIn}
@@ -109,7 +109,7 @@ nothing-told = refl
 
 -- numbers
 three-told : replyText (name (record { name = 34; stem = 4; branch = 10 })) ≡ bytesOf "34 4 10\n"
-unfolding replyText numbersText numberHoles blankHoles filled piece numbersTaken decimal decimalIn
+unfolding replyText numbersText itemsOf itemAt filled piece numbersTaken decimal decimalIn
 three-told = refl
 
 behind-told : replyText (signed (answer (negsuc 93_335_813))) ≡ bytesOf "-93335814\n"
@@ -132,7 +132,7 @@ month-told = refl
 
 -- records, and a refusal in their place
 records-told : recordsText (35 ∷ 29 ∷ 11 ∷ 0 ∷ 64 ∷ 30 ∷ 12 ∷ 0 ∷ []) ≡ bytesOf "35:29:11:0 64:30:12:0\n"
-unfolding recordsText recordsHoles recordHoles filled piece numbersTaken decimal decimalIn
+unfolding itemsText itemsOf itemAt filled piece numbersTaken decimal decimalIn
 records-told = refl
 
 late-told : replyText (year (refused 1)) ≡ bytesOf "refused 1\n"
@@ -142,17 +142,17 @@ late-told = refl
 -- the terms of year 5, the months of year 0, and those of years 5 and 6
 terms-told : replyText (termsOf 5)
     ≡ bytesOf "188127250000 189649093750 191170937500 192692781250 194214625000 195736468750 197258312500 198780156250 200302000000 201823843750 203345687500 204867531250 206389375000 207911218750 209433062500 210954906250 212476750000 213998593750 215520437500 217042281250 218564125000 220085968750 221607812500 223129656250\n"
-unfolding replyText listText termsReply termList listed term solstice numbersText numberHoles blankHoles filled piece numbersTaken decimal decimalIn
+unfolding replyText termsReply termList listed term solstice itemsText itemsOf itemAt filled piece numbersTaken decimal decimalIn
 terms-told = refl
 
 year-told : replyText (yearOf 0)
     ≡ bytesOf "35:29:11:0 64:30:12:0 94:29:1:0 123:30:2:0 153:29:3:0 182:29:4:0 211:30:5:0 241:29:6:0 270:30:7:0 300:29:8:0 329:30:8:1 359:30:9:0 389:30:10:0\n"
-unfolding list-0 replyText listReply recordsText recordsHoles recordHoles filled piece numbersTaken decimal decimalIn
+unfolding list-0 replyText listReply itemsText itemsOf itemAt filled piece numbersTaken decimal decimalIn
 year-told = simp (months .lists .3)
 
 years-told : replyText (yearsOf 5 2)
     ≡ bytesOf "1865:29:11:0 1894:30:12:0 1924:30:1:0 1954:30:2:0 1984:29:3:0 2013:30:4:0 2043:29:5:0 2072:30:6:0 2102:29:7:0 2131:30:8:0 2161:29:9:0 2190:29:10:0 2219:30:11:0 2249:29:12:0 2278:30:1:0 2308:30:2:0 2338:29:2:1 2367:30:3:0 2397:30:4:0 2427:29:5:0 2456:30:6:0 2486:29:7:0 2515:30:8:0 2545:29:9:0 2574:30:10:0\n"
-unfolding list-5 list-6 replyText runReply runAsked recordsText recordsHoles recordHoles filled piece numbersTaken decimal decimalIn
+unfolding list-5 list-6 replyText runReply runAsked itemsText itemsOf itemAt filled piece numbersTaken decimal decimalIn
 years-told = simp (months .runs .6, months .runs .7)
 
 constants-told : replyText constants

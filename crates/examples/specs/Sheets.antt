@@ -27,12 +27,12 @@ use Rattle.words.specs.Line.{wordOf, afterWord}
 use Rattle.words.specs.Choice.{chosen}
 use Rattle.words.specs.Numbers.{endOf, partOf, restOf, numbersOf}
 use Rattle.texts.specs.Text.{decimalIn, decimal, piece, numbersTaken, filled}
-use Rattle.replies.specs.LineText.{blankHoles, numberHoles, refusalText, numbersText}
+use Rattle.replies.specs.LineText.{itemAt, itemsOf, refusalText}
 use Rattle.sheets.specs.Marks.{marked, shownAt, agrees, agreesAll, passing, badMark, anyBad, sheetReply}
 use Rattle.sheets.specs.declared.Mark.{Mark}
 use Rattle.sheets.specs.declared.Shown.the-variants.{Name, Stem, Branch, Length, Leap}
 use Rattle.questions.specs.MarkWords.{showing, markOf, afterMark, marksWithin, marksIn}
-use Rattle.replies.specs.ListText.{listText}
+use Rattle.replies.specs.ListText.{itemsText, listText}
 use Rattle.questions.specs.Question.{alone, replyTo}
 use Rattle.replies.specs.ReplyText.{replyText}
 use Rattle.ask.specs.AnswerText.{answerText}
@@ -82,9 +82,9 @@ line says reply = answerText shoushi (bytesOf line) ≡ bytesOf reply
 -- a mark that no month has, and a line that is no marks, which is told first
 refusals : ("sheet name 0 60" says "refused 2\n") × ("sheet leap 10 length 0 31" says "refused 2\n") × ("sheet leap 13 leap" says "refused 5\n")
     × ("sheets" says "refused 5\n")
-unfolding indexOf indexAfter digits value isNumber numberOf endOf partOf restOf same chosen showing markOf afterMark marksWithin marksIn numbersOf wordOf afterWord badMark anyBad sheetReply listText refusalText numbersText numberHoles blankHoles filled piece numbersTaken decimal decimalIn answerText replyTo replyText alone
+unfolding indexOf indexAfter digits value isNumber numberOf endOf partOf restOf same chosen showing markOf afterMark marksWithin marksIn numbersOf wordOf afterWord badMark anyBad sheetReply refusalText itemsText itemsOf itemAt filled piece numbersTaken decimal decimalIn answerText replyTo replyText alone
 refusals = (refl, refl, refl, refl)
 
 years : (listText (0 ∷ 93 ∷ 310 ∷ []) ≡ bytesOf "0 93 310\n") × (listText (999 ∷ []) ≡ bytesOf "999\n") × (listText [] ≡ bytesOf "none\n")
-unfolding listText numbersText numberHoles blankHoles filled piece numbersTaken decimal decimalIn
+unfolding itemsText itemsOf itemAt filled piece numbersTaken decimal decimalIn
 years = (refl, refl, refl)

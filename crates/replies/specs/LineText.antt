@@ -3,7 +3,7 @@
 use mathlib.Core.List.{List, [], _∷_, _++_}
 use Prim.Native.Nat.{ℕ, zero, suc}
 use lib.IntN.{ℤ, pos, negsuc}
-use lib.ListN.{length}
+use lib.ListN.{length, drop}
 use Rattle.rows.specs.Reply.{Reply, answer, refused}
 use Rattle.measure.specs.declared.Name.{Name}
 use Rattle.measure.specs.Days.{dayOf, remainderOf, sixtyName}
@@ -13,21 +13,26 @@ use Rattle.months.specs.Month.{MonthOfDay}
 use Rattle.words.specs.Ascii.{bytesOf}
 use Rattle.texts.specs.Text.{filled}
 
--- so many holes, each with a blank before it
-unfoldable pub blankHoles : ℕ → List ℕ
-blankHoles zero = []
-blankHoles (suc k) = bytesOf " %" ++ blankHoles k
+-- the item at a place of a line: its template starts with a blank, which the first does without
+unfoldable pub itemAt : List ℕ → ℕ → List ℕ
+itemAt item zero = drop 1 item
+itemAt item (suc i) = item
 
--- so many holes, with single blanks between them
-unfoldable pub numberHoles : ℕ → List ℕ
-numberHoles zero = []
-numberHoles (suc k) = bytesOf "%" ++ blankHoles k
+-- so many items
+unfoldable pub itemsOf : List ℕ → ℕ → List ℕ
+itemsOf item zero = []
+itemsOf item (suc k) = itemsOf item k ++ itemAt item k
+
+-- one number
+abbrev pub numberItem : List ℕ
+numberItem = bytesOf " %"
 
 unfoldable pub refusalText : ℕ → List ℕ
 refusalText k = filled (bytesOf "refused %\n") (k ∷ [])
 
+-- numbers with single blanks between them
 unfoldable pub numbersText : List ℕ → List ℕ
-numbersText ns = filled (numberHoles (length ns) ++ bytesOf "\n") ns
+numbersText ns = filled (itemsOf numberItem (length ns) ++ bytesOf "\n") ns
 
 -- what was asked for, or the refusal
 abbrev pub textOf : {A : Type 0} → (A → List ℕ) → Reply A → List ℕ

@@ -12,7 +12,7 @@ use lib.ListN.{length, getD, drop, length-append, length-drop, List·getD-append
 use lib.Seq.{drop-cons, drop-drop, getD-drop, drop-append-le}
 use Rattle.rows.specs.Choice.{if_then_else_, _=?_}
 use Rattle.rows.proofs.Choice.{if-cases}
-use Rattle.texts.specs.Text.{decimal, hole, piece, numbersTaken, filled, mostDigits, textRoom}
+use Rattle.texts.specs.Text.{decimal, hole, piece, numbersTaken, holes, filled, mostDigits, textRoom}
 use Rattle.texts.proofs.DecimalLaws.{decimal-most}
 
 -- one byte more of a template, where so many numbers are written already
@@ -38,11 +38,6 @@ filled-most (b ∷ t) ns =
       piece-most b (getD ns 0 0),
       filled-most t (drop (numbersTaken b) ns),
     )
-
--- how many numbers a template takes
-unfoldable pub holes : List ℕ → ℕ
-holes [] = 0
-holes (b ∷ t) = numbersTaken b + holes t
 
 -- two templates in a row: the second takes the numbers that the first leaves
 pub filled-append : (s t ns : List ℕ) → filled (s ++ t) ns ≡ filled s ns ++ filled t (drop (holes s) ns)

@@ -34,6 +34,11 @@ piece b n = if b =? hole then decimal n else b ∷ []
 unfoldable pub numbersTaken : ℕ → ℕ
 numbersTaken b = if b =? hole then 1 else 0
 
+-- how many numbers a template takes
+unfoldable pub holes : List ℕ → ℕ
+holes [] = 0
+holes (b ∷ t) = numbersTaken b + holes t
+
 -- a template with its numbers. A hole for which no number is left takes 0, and numbers for which no hole is left are not written
 unfoldable pub filled : List ℕ → List ℕ → List ℕ
 filled [] ns = []

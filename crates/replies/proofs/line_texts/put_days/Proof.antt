@@ -3,7 +3,7 @@ use borrow.Author.Needs.{needs}
 use denote.Ref.{now}
 use Rattle.remainders.specs.ExtraDays.{daysSaid}
 use Rattle.texts.specs.Text.{piece, numbersTaken, filled}
-use Rattle.replies.specs.LineText.{daysText, blankHoles, numberHoles, numbersText}
+use Rattle.replies.specs.LineText.{daysText, itemAt, itemsOf, numbersText}
 use Rattle.replies.proofs.LineTextLaws.{told-so, case-text}
 use Rattle.replies.proofs.line_texts.put_days.Statement.{statement}
 use Rattle.replies.proofs.line_texts.put_days.Tie as tie
@@ -22,7 +22,7 @@ returns-2 c =
     told-so (now (at .before .before .before .args .row)) (case-text daysSaid daysText (at .enum-told .given .1)) (put .fill .ensures)
 
 returns-3 : tie.Need-returns-3
-unfolding daysText numbersText numberHoles blankHoles
+unfolding daysText numbersText itemsOf itemAt
 returns-3 c =
     let put = c .before .before in
     let at = put .before .before .before .before .before in

@@ -2,7 +2,7 @@
 use borrow.Author.Needs.{needs}
 use denote.Ref.{now}
 use Rattle.remainders.specs.Hours.{hourSaid}
-use Rattle.replies.specs.LineText.{hourText, blankHoles, numberHoles, numbersText}
+use Rattle.replies.specs.LineText.{hourText, itemAt, itemsOf, numbersText}
 use Rattle.replies.proofs.LineTextLaws.{told-so, case-text}
 use Rattle.replies.proofs.line_texts.put_hour.Statement.{statement}
 use Rattle.replies.proofs.line_texts.put_hour.Tie as tie
@@ -14,7 +14,7 @@ returns c =
     told-so (now (at .before .before .before .args .row)) (case-text hourSaid hourText (at .h .given .1)) (put .put-refusal .ensures)
 
 returns-2 : tie.Need-returns-2
-unfolding numbersText numberHoles blankHoles
+unfolding numbersText itemsOf itemAt
 returns-2 c =
     let put = c .before .before in
     let at = put .before .before .before .before .before in

@@ -1,24 +1,21 @@
 -- `replies::list_texts::put_list` meets its contract. Assumes nothing.
 use borrow.Author.Needs.{needs}
-use mathlib.Core.Path.{_≡_, _∙_, ap}
-use Prim.Native.Nat.{ℕ, _*_}
 use native.Mathlib.Omega.{arith}
 use denote.Ref.{now}
-use lib.ListN.{take}
 use Rattle.rows.specs.Reply.{answerSaid}
 use Rattle.rows.specs.declared.Answer.{Answer}
 use Rattle.questions.specs.DeskReply.{listIn}
 use Rattle.replies.specs.ListText.{listText, numberRoom}
 use Rattle.replies.proofs.LineTextLaws.{told-so, case-text}
-use Rattle.replies.proofs.ListTextLaws.{case-fits}
+use Rattle.replies.proofs.ListTextLaws.{case-fits, number-takes}
 use Rattle.replies.proofs.list_texts.put_list.Statement.{statement}
 use Rattle.replies.proofs.list_texts.put_list.Tie as tie
 
-put-each-requires : tie.Need-put-each-requires
-put-each-requires c κs =
-    let at = c .before .before in
+put-items-requires : tie.Need-put-items-requires
+put-items-requires c κs =
+    let at = c .before .before .before in
     let fits = case-fits 1 numberRoom _ _ (at .a2 .given .1) (at .before .before .before .before .pre .1) in
-    (omega (arith, fits .0), fits .1)
+    (omega arith, omega arith, number-takes, omega (arith, fits .0), omega (arith, fits .1))
 
 returns : tie.Need-returns
 returns c =
@@ -30,13 +27,12 @@ returns c =
 returns-2 : tie.Need-returns-2
 returns-2 c =
     let put = c .before .before in
-    let at = put .before .before .before in
+    let at = put .before .before .before .before in
     let a = at .before .before .before .before .args in
-    let one : at .a2 .given .0 .0 ≡ 1 * at .a2 .given .0 .0 = omega arith in
     told-so (now (a .row))
-    (ap (λ (k : ℕ). listText (take k (now (a .numbers)))) one ∙ case-text (λ (x : Answer). listIn 1 (answerSaid x) (now (a .numbers))) listText (at .a2 .given .1))
-    (put .put-each .ensures)
+    (case-text (λ (x : Answer). listIn 1 (answerSaid x) (now (a .numbers))) listText (at .a2 .given .1))
+    (put .put-items .ensures)
 
 pub put-list-spec : {M : Type 1} → statement M
 put-list-spec =
-    tie.close (tie.spec (search needs) (search needs) (search needs) put-each-requires (search needs) returns (search needs) returns-2)
+    tie.close (tie.spec (search needs) (search needs) (search needs) (search needs) put-items-requires (search needs) returns (search needs) returns-2)
