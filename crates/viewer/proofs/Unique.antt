@@ -1,17 +1,12 @@
--- The contract determines every byte of the row.
+-- Each contract determines what is told, and every byte of the row.
 -- Assumes nothing.
-use mathlib.Core.Path.{_∙_, refl, sym}
+use mathlib.Core.Path.{_∙_, sym}
 use denote.Ref.{now}
 use Rattle.rows.proofs.Determined.{OneOutcome, OneReply}
-use Rattle.viewer.proofs.record_bytes.put_numbers.Kinds as put-numbers
-use Rattle.viewer.proofs.record_bytes.put_numbers.Reads as put-numbers-reads
 use Rattle.viewer.proofs.lengadriu_day.Kinds as day
 use Rattle.viewer.proofs.lengadriu_day.Reads as day-reads
 use Rattle.viewer.proofs.lengadriu_year.Kinds as year
 use Rattle.viewer.proofs.lengadriu_year.Reads as year-reads
-
-pub put-numbers-unique : OneOutcome put-numbers.ps put-numbers.r put-numbers-reads.Post (λ κs s. now (s .1 .1 .0))
-put-numbers-unique κs a x y s t p q = (refl, p ∙ sym q)
 
 pub lengadriu-day-unique : OneReply day.ps day.r day-reads.Post
 lengadriu-day-unique κs a x y s t p q = p ∙ sym q

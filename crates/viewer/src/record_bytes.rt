@@ -8,7 +8,7 @@ ghost use Rattle.viewer.specs.Bytes.{numberBytes, lowFirst, lowFirstByte
 pub const NUMBER_BYTES: usize = 4;
 
 // The first k numbers as bytes, from the row's start.
-pub fn put_numbers(numbers: &[u64], k: usize, row: &mut [u8])
+pub(crate) fn put_numbers(numbers: &[u64], k: usize, row: &mut [u8])
     requires { ⌜ (k ≤ length (now numbers)) × (numberBytes * k ≤ length (now row)) ⌝ }
     ensures { λ _. ⌜ now (row .exit) ≡ over (lowFirstBytes (take k (now (numbers .entry)))) (now (row .entry)) ⌝ }
 {
