@@ -6,7 +6,6 @@ use Prim.Native.Nat.{ℕ, _≤_}
 use native.Mathlib.Omega.{arith}
 use borrow.Author.Tests.{le-ltb}
 use lib.ListN.{length}
-use Rattle.rows.specs.Choice.{if_then_else_}
 use Rattle.rows.specs.Reply.{answer}
 use Rattle.rows.specs.Row.{rowAfter}
 use Rattle.measure.specs.Epoch.{shoushi}

@@ -6,7 +6,6 @@ use native.Mathlib.Omega.{arith}
 use borrow.Author.Needs.{needs}
 use denote.Ref.{now}
 use lib.ListN.{length, length-append}
-use Rattle.rows.specs.Row.{over}
 use Rattle.rows.proofs.Row.{put, grow, length-over}
 use Rattle.months.specs.Month.{monthSaid}
 use Rattle.frames.specs.LineEnds.{lineEnd}
