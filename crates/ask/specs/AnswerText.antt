@@ -19,7 +19,7 @@ replyReply r room = refuseIf (room <? roomOf r) shortRow (answer (length (replyT
 abbrev pub mostNumbers : ℕ
 mostNumbers = recordWidth * mostRecords
 
--- the same of the reply to a line
+-- the text that answers a line, and how many bytes of it are written
 unfoldable pub answerText : Epoch → List ℕ → List ℕ
 answerText e line = replyText (replyTo e mostNumbers line)
 

@@ -24,9 +24,6 @@ module _ (y n m w f : ℕ) where
   to-length : length (digitsOf 3 y ++ digitsOf 1 n ++ digitsOf 1 m ++ digitsOf w f) ≡ 5 + w
   to-length = simp (length-append, length-digits)
 
-  to-end : (l : ℕ) → length (digitsOf 3 y ++ digitsOf 1 n ++ digitsOf 1 m ++ digitsOf w f ++ digitsOf 2 l) ≡ 5 + w + 2
-  to-end l = simp (length-append, length-digits)
-
 returns : tie.Need-returns
 unfolding monthLine
 returns c =
@@ -45,7 +42,7 @@ returns c =
           (grow name (digitsOf w (f .first)) row _ _ 5 (p1 .put-month-name .ensures)
           (to-first (f .year) (f .number) (f .mark) w (f .first)) (p2 .put-digits .ensures))
           (to-length (f .year) (f .number) (f .mark) w (f .first)) (p3 .put-digits2 .ensures))
-          (to-end (f .year) (f .number) (f .mark) w (f .first) (f .length)) (omega arith),
+          (line-length w f) (omega arith),
     )
 
 same-length : tie.Need-same-length
