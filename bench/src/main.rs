@@ -44,6 +44,8 @@ extern "C" {
     ) -> Written;
     fn timing_true_moon(l: u64, q: u64) -> Timed;
     fn timing_run(row: *mut u64, length: usize, n: u64, count: u64) -> Timed;
+    fn timing_terms(row: *mut u64, length: usize, n: u64) -> Timed;
+    fn timing_terms_anew(row: *mut u64, length: usize, n: u64) -> Timed;
 }
 
 /// The least nanoseconds that one of `of` items took, over several rounds of both sides in turn.
@@ -142,6 +144,47 @@ fn runs() -> bool {
         race(20, 12_368, ours, theirs),
         1.5,
     )
+}
+
+/// A year's terms by one way of listing them, for all years.
+fn terms_by(
+    what: &str,
+    ours: unsafe extern "C" fn(*mut u64, usize, u64) -> Timed,
+    theirs: fn(u64, &mut [u64]) -> usize,
+) -> bool {
+    let (mut row, mut plain_row) = ([0u64; 24], [0u64; 24]);
+    let sum = |sum: u64, row: &[u64]| row.iter().fold(sum, |sum, x| sum.wrapping_add(*x));
+    let ours = || {
+        (0..1_000).fold(0u64, |total, n| {
+            let terms = unsafe { ours(row.as_mut_ptr(), row.len(), n) };
+            assert_eq!(terms.refused, 0);
+            sum(total, black_box(&row))
+        })
+    };
+    let theirs = || {
+        (0..1_000).fold(0u64, |total, n| {
+            theirs(n, &mut plain_row);
+            sum(total, black_box(&plain_row))
+        })
+    };
+    report(what, race(200, 1_000, ours, theirs), 1.5)
+}
+
+/// As the calendar lists them, and as it did before.
+fn terms() -> bool {
+    let good = [
+        terms_by(
+            "a year's 24 terms, each carried to the next",
+            timing_terms,
+            plain::terms,
+        ),
+        terms_by(
+            "a year's 24 terms, each multiplied anew, as before",
+            timing_terms_anew,
+            plain::terms_anew,
+        ),
+    ];
+    !good.contains(&false)
 }
 
 /// Every part of a reply counts, so that none is left out of the work.
@@ -275,7 +318,7 @@ fn main() {
             "release"
         }
     );
-    let good = [true_moons(), days(), runs(), sheets()];
+    let good = [true_moons(), terms(), days(), runs(), sheets()];
     if good.contains(&false) {
         std::process::exit(1);
     }

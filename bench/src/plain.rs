@@ -112,6 +112,26 @@ fn middle(n: u64, i: u64) -> u64 {
     (n * YEAR + SOLSTICE + i * 2 * TERM) / DAY
 }
 
+/// A year's terms, each carried to the next by one step; how many there are.
+#[inline(never)]
+pub fn terms(n: u64, row: &mut [u64]) -> usize {
+    let mut carried = n * YEAR + SOLSTICE;
+    for number in row[..24].iter_mut() {
+        *number = carried;
+        carried += TERM;
+    }
+    24
+}
+
+/// The same, each multiplied anew.
+#[inline(never)]
+pub fn terms_anew(n: u64, row: &mut [u64]) -> usize {
+    for (i, number) in row[..24].iter_mut().enumerate() {
+        *number = n * YEAR + SOLSTICE + i as u64 * TERM;
+    }
+    24
+}
+
 /// A lunation with its month's first day and the next month's, so that no true moon is worked out twice.
 #[derive(Clone, Copy)]
 struct Month {

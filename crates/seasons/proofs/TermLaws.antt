@@ -1,14 +1,15 @@
--- Laws of the terms: they rise, none lies before the epoch's solstice, those of the admitted years are no larger than 10¹⁴ wei; and the
--- cases of the reply to their list.
+-- Laws of the terms: each lies one step after the one before it, none before the epoch's solstice, those of the admitted years are no larger
+-- than 10¹⁴ wei; and the cases of the reply to their list.
 -- Assumes nothing.
 use mathlib.Core.Bool.{true, false}
 use mathlib.Core.Logic.{_⊎_, inl, inr}
-use mathlib.Core.Path.{_≡_, ap}
+use mathlib.Core.Path.{_≡_, refl, ap}
 use Prim.Native.Nat.{ℕ, _+_, _*_, _≤_, _<_}
 use native.Mathlib.Omega.{arith}
-use borrow.Author.Tests.{ne-eqb, le-ltb}
+use borrow.Author.Tests.{ne-eqb, lt-ltb, le-ltb}
 use lib.ListN.{length}
 use Rattle.rows.specs.Choice.{_<?_}
+use Rattle.rows.specs.Row.{listed}
 use Rattle.rows.specs.Reply.{Reply, answer, refused, noYear, shortRow}
 use Rattle.rows.proofs.Choice.{refuse-cases}
 use Rattle.rows.proofs.Row.{length-listed}
@@ -22,8 +23,12 @@ pub term-is : (e : Epoch) (n i : ℕ) → term e n i ≡ e .solstice + (terms * 
 unfolding term solstice
 term-is e n i = omega arith
 
+-- so a list may be added up
+pub term-next : (e : Epoch) (n i : ℕ) → term e n (i + 1) ≡ term e n i + termStep
+term-next e n i = omega (arith, term-is e n i, term-is e n (i + 1))
+
 pub term-rises : (e : Epoch) (n i : ℕ) → term e n i < term e n (i + 1)
-term-rises e n i = omega (arith, term-is e n i, term-is e n (i + 1))
+term-rises e n i = omega (arith, term-next e n i)
 
 pub term-zero : (e : Epoch) (n : ℕ) → term e n 0 ≡ solstice e n
 unfolding term
@@ -41,14 +46,31 @@ unfolding termsReply
 terms-cases P n room late short all =
     refuse-cases P (lastYear <? n) noYear _ late λ _. refuse-cases P (room <? terms) shortRow _ short λ _. all
 
+-- which of them it is
+pub terms-late : (n : ℕ) → lastYear < n → (room : ℕ) → termsReply n room ≡ refused noYear
+unfolding termsReply
+terms-late n h room = simp (lt-ltb lastYear n h)
+
+pub terms-short : (n room : ℕ) → n ≤ lastYear → room < terms → termsReply n room ≡ refused shortRow
+unfolding termsReply
+terms-short n room h k = simp (le-ltb lastYear n h, lt-ltb room terms k)
+
+pub terms-told : (n room : ℕ) → n ≤ lastYear → terms ≤ room → termsReply n room ≡ answer terms
+unfolding termsReply
+terms-told n room h k = simp (le-ltb lastYear n h, le-ltb room terms k)
+
 -- and is the same in every row that has room
 pub terms-in-room : (n a b : ℕ) → terms ≤ a → terms ≤ b → termsReply n a ≡ termsReply n b
 unfolding termsReply
 terms-in-room n a b h g = rw (le-ltb a terms h, le-ltb b terms g)
 
+pub terms-are : (e : Epoch) (n : ℕ) → termList e n ≡ listed (term e n) 0 terms
+unfolding termList
+terms-are e n = refl
+
 pub terms-length : (e : Epoch) (n : ℕ) → length (termList e n) ≡ terms
 unfolding termList
-terms-length e n = length-listed (term e n) 0 terms
+terms-length e n = length-listed _ 0 terms
 
 -- the four terms before which earth rules, as a program's cases tell them
 abbrev pub OneOfFour : ℕ → Type 0

@@ -95,13 +95,16 @@ pub fn terms(n: u64, row: &mut [u64]) -> Answer
     Answer::Number(TERMS)
 }
 
+// Each term is the one before it carried forward by one step, as learners add them up.
 fn write_terms(n: u64, row: &mut [u64])
     requires { ⌜ (n ≤ lastYear) × (terms ≤ length (now row)) ⌝ }
     ensures { λ _. ⌜ now (row .exit) ≡ over (termList shoushi n) (now (row .entry)) ⌝ }
 {
+    let mut carried = term_time(n, 0);
     let mut i: usize = 0;
     while i < TERMS as usize {
-        row[i] = term_time(n, i as u64);
+        row[i] = carried;
+        carried += TERM_STEP;
         i += 1;
     }
 }

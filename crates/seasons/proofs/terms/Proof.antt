@@ -1,29 +1,21 @@
--- `term_lists::terms` meets its contract. Assumes nothing.
+-- `seasons::terms` meets its contract. Assumes nothing.
 use native.Mathlib.Omega.{arith}
 use borrow.Author.Needs.{needs}
-use borrow.Author.Tests.{lt-ltb, le-ltb}
-use Rattle.seasons.specs.Terms.{termsReply}
+use Rattle.seasons.proofs.TermLaws.{terms-late, terms-short, terms-told}
 use Rattle.seasons.proofs.terms.Statement.{statement}
 use Rattle.seasons.proofs.terms.Tie as tie
 
 returns : tie.Need-returns
-unfolding termsReply
-returns c = (simp (lt-ltb _ _ (c .if1 .taken)), simp (lt-ltb _ _ (c .if1 .taken)))
+returns c = let late = terms-late _ (c .if1 .taken) in (rw late, rw late)
 
 returns-2 : tie.Need-returns-2
-unfolding termsReply
-returns-2 c = (
-  simp (le-ltb _ _ (c .before .if1 .left), lt-ltb _ _ (c .if2 .taken)),
-  simp (le-ltb _ _ (c .before .if1 .left), lt-ltb _ _ (c .if2 .taken)),
-)
+returns-2 c = let short = terms-short _ _ (c .before .if1 .left) (c .if2 .taken) in (rw short, rw short)
 
 returns-3 : tie.Need-returns-3
-unfolding termsReply
 returns-3 c =
-    let at = c .before .before .before .before in (
-      simp (le-ltb _ _ (at .before .if1 .left), le-ltb _ _ (at .if2 .left)),
-      simp (le-ltb _ _ (at .before .if1 .left), le-ltb _ _ (at .if2 .left)) (c .before .before .write-terms .ensures),
-    )
+    let at = c .before .before .before .before in
+    let told = terms-told _ _ (at .before .if1 .left) (at .if2 .left) in
+    (rw told, rw told (c .before .before .write-terms .ensures))
 
 pub terms-spec : {M : Type 1} → statement M
 terms-spec =
