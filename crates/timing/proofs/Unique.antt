@@ -14,6 +14,6 @@ timing-run-unique κs a x y s t p q = (p .0 ∙ sym (q .0), p .1 ∙ sym (q .1))
 pub timing-terms-unique : OneOutcome own.timing_terms.Kinds.ps own.timing_terms.Kinds.r own.timing_terms.Reads.Post (λ κs s. now (s .0))
 timing-terms-unique κs a x y s t p q = (p .0 ∙ sym (q .0), p .1 ∙ sym (q .1))
 
-pub timing-terms-anew-unique
-    : OneOutcome own.timing_terms_anew.Kinds.ps own.timing_terms_anew.Kinds.r own.timing_terms_anew.Reads.Post (λ κs s. now (s .0))
+pub timing-terms-anew-unique :
+    OneOutcome own.timing_terms_anew.Kinds.ps own.timing_terms_anew.Kinds.r own.timing_terms_anew.Reads.Post (λ κs s. now (s .0))
 timing-terms-anew-unique κs a x y s t p q = (p .0 ∙ sym (q .0), p .1 ∙ sym (q .1))
