@@ -23,9 +23,10 @@ pub term-is : (e : Epoch) (n i : ℕ) → term e n i ≡ e .solstice + (terms * 
 unfolding term solstice
 term-is e n i = omega arith
 
--- so a list may be added up
+-- and one step after the one before it, so that a list may be added up
 pub term-next : (e : Epoch) (n i : ℕ) → term e n (i + 1) ≡ term e n i + termStep
-term-next e n i = omega (arith, term-is e n i, term-is e n (i + 1))
+unfolding term
+term-next e n i = omega arith
 
 pub term-rises : (e : Epoch) (n i : ℕ) → term e n i < term e n (i + 1)
 term-rises e n i = omega (arith, term-next e n i)
@@ -55,9 +56,9 @@ pub terms-short : (n room : ℕ) → n ≤ lastYear → room < terms → termsRe
 unfolding termsReply
 terms-short n room h k = simp (le-ltb lastYear n h, lt-ltb room terms k)
 
-pub terms-told : (n room : ℕ) → n ≤ lastYear → terms ≤ room → termsReply n room ≡ answer terms
+pub terms-answered : (n room : ℕ) → n ≤ lastYear → terms ≤ room → termsReply n room ≡ answer terms
 unfolding termsReply
-terms-told n room h k = simp (le-ltb lastYear n h, le-ltb room terms k)
+terms-answered n room h k = simp (le-ltb lastYear n h, le-ltb room terms k)
 
 -- and is the same in every row that has room
 pub terms-in-room : (n a b : ℕ) → terms ≤ a → terms ≤ b → termsReply n a ≡ termsReply n b
@@ -69,8 +70,7 @@ unfolding termList
 terms-are e n = refl
 
 pub terms-length : (e : Epoch) (n : ℕ) → length (termList e n) ≡ terms
-unfolding termList
-terms-length e n = length-listed _ 0 terms
+terms-length e n = rw terms-are (length-listed (term e n) 0 terms)
 
 -- the four terms before which earth rules, as a program's cases tell them
 abbrev pub OneOfFour : ℕ → Type 0

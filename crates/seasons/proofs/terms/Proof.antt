@@ -1,7 +1,7 @@
 -- `seasons::terms` meets its contract. Assumes nothing.
 use native.Mathlib.Omega.{arith}
 use borrow.Author.Needs.{needs}
-use Rattle.seasons.proofs.TermLaws.{terms-late, terms-short, terms-told}
+use Rattle.seasons.proofs.TermLaws.{terms-late, terms-short, terms-answered}
 use Rattle.seasons.proofs.terms.Statement.{statement}
 use Rattle.seasons.proofs.terms.Tie as tie
 
@@ -14,8 +14,8 @@ returns-2 c = let short = terms-short _ _ (c .before .if1 .left) (c .if2 .taken)
 returns-3 : tie.Need-returns-3
 returns-3 c =
     let at = c .before .before .before .before in
-    let told = terms-told _ _ (at .before .if1 .left) (at .if2 .left) in
-    (rw told, rw told (c .before .before .write-terms .ensures))
+    let answered = terms-answered _ _ (at .before .if1 .left) (at .if2 .left) in
+    (rw answered, rw answered (c .before .before .write-terms .ensures))
 
 pub terms-spec : {M : Type 1} → statement M
 terms-spec =

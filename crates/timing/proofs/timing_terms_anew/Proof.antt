@@ -10,7 +10,7 @@ use Rattle.measure.specs.Epoch.{shoushi}
 use Rattle.rows.specs.Row.{listed, over}
 use Rattle.rows.proofs.Row.{over-is, listed-none, put-listed}
 use Rattle.seasons.specs.Terms.{terms, term}
-use Rattle.seasons.proofs.TermLaws.{terms-are, terms-late, terms-short, terms-told}
+use Rattle.seasons.proofs.TermLaws.{terms-are, terms-late, terms-short, terms-answered}
 use Rattle.timing.proofs.timing_terms_anew.Statement.{statement}
 use Rattle.timing.proofs.timing_terms_anew.Tie as tie
 
@@ -44,10 +44,10 @@ returns-3 : tie.Need-returns-3 Inv-loop μ-loop
 returns-3 c =
     let at = c .before .before in
     let a = at .before .before .before .before .args in
-    let told = terms-told _ _ (at .before .before .if1 .left) (at .before .if2 .left) in
+    let answered = terms-answered _ _ (at .before .before .if1 .left) (at .before .if2 .left) in
     let all : at .loop .i ≡ terms = omega arith in (
-      rw told (c .number-told3 .ensures),
-      rw (told, terms-are) (at .loop .inv .2 ∙ ap (λ (i : ℕ). over (listed (term shoushi (a .n)) 0 i) (now (a .row))) all),
+      rw answered (c .number-told3 .ensures),
+      rw (answered, terms-are) (at .loop .inv .2 ∙ ap (λ (i : ℕ). over (listed (term shoushi (a .n)) 0 i) (now (a .row))) all),
     )
 
 pub timing-terms-anew-spec : {M : Type 1} → statement M
