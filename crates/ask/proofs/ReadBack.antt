@@ -7,31 +7,31 @@ use mathlib.Core.Path.{◌≡◌, refl, ap}
 use Prim.Native.Nat.{ℕ, ◌≤◌}
 use lib.ListN.{length}
 use Rattle.rows.specs.Choice.{if◌then◌else◌, ◌<?◌, ◌=?◌}
-use Rattle.rows.specs.Reply.{Reply, answer, refused, shortRow, refuseIf}
+use Rattle.rows.specs.Reply.{Reply, answer, refused, short_row, refuse_if}
 use Rattle.measure.specs.Epoch.{shoushi}
-use Rattle.questions.specs.Question.{replyTo}
-use Rattle.replies.specs.ListText.{yearsRoom}
-use Rattle.replies.specs.ReplyText.{replyText, roomOf}
-use Rattle.ask.specs.AnswerText.{mostNumbers, replyReply, answerText, answerReply}
-use Rattle.ask.specs.Written.{writtenTold}
+use Rattle.questions.specs.Question.{reply_to}
+use Rattle.replies.specs.ListText.{years_room}
+use Rattle.replies.specs.ReplyText.{reply_text, room_of}
+use Rattle.ask.specs.AnswerText.{most_numbers, reply_reply, answer_text, answer_reply}
+use Rattle.ask.specs.Written.{written_told}
 use Rattle.ask.specs.declared.Written.{Written}
-use Rattle.ask.proofs.AnswerLaws.{answered-whole}
+use Rattle.ask.proofs.AnswerLaws.{answered_whole}
 
 -- what a struct says
-unfoldable pub writtenRead : Written → Reply ℕ
-writtenRead t = if t.refused =? 0 then answer t.bytes else refused t.refused
+unfoldable pub written_read : Written → Reply ℕ
+written_read t = if t.refused =? 0 then answer t.bytes else refused t.refused
 
-by-room : (short : Bool) (n : ℕ) → writtenRead (writtenTold (refuseIf short shortRow (answer n))) ≡ refuseIf short shortRow (answer n)
-unfolding writtenRead
-by-room true n = refl
-by-room false n = refl
+by_room : (short : Bool) (n : ℕ) → written_read (written_told (refuse_if short short_row (answer n))) ≡ refuse_if short short_row (answer n)
+unfolding written_read
+by_room true n = refl
+by_room false n = refl
 
-pub ask-back : (line : List ℕ) (room : ℕ) → writtenRead (writtenTold (answerReply shoushi line room)) ≡ answerReply shoushi line room
-unfolding answerReply replyReply
-ask-back line room =
-    let told = replyTo shoushi mostNumbers line in
-    by-room (room <? roomOf told) (length (replyText told))
+pub ask_back : (line : List ℕ) (room : ℕ) → written_read (written_told (answer_reply shoushi line room)) ≡ answer_reply shoushi line room
+unfolding answer_reply reply_reply
+ask_back line room =
+    let told = reply_to shoushi most_numbers line in
+    by_room (room <? room_of told) (length (reply_text told))
 
-pub ask-whole : (line : List ℕ) (room : ℕ) → yearsRoom ≤ room
-    → writtenTold (answerReply shoushi line room) ≡ writtenTold (answer (length (answerText shoushi line)))
-ask-whole line room h = ap writtenTold (answered-whole line room h)
+pub ask_whole : (line : List ℕ) (room : ℕ) → years_room ≤ room
+    → written_told (answer_reply shoushi line room) ≡ written_told (answer (length (answer_text shoushi line)))
+ask_whole line room h = ap written_told (answered_whole line room h)

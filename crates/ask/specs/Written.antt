@@ -5,6 +5,6 @@ use Rattle.rows.specs.Reply.{Reply, answer, refused}
 use Rattle.ask.specs.declared.Written.{Written}
 
 -- how many bytes, or why none
-abbrev pub writtenTold : Reply ℕ → Written
-writtenTold (answer n) = record { refused = 0; bytes = n }
-writtenTold (refused k) = record { refused = k; bytes = 0 }
+abbrev pub written_told : Reply ℕ → Written
+written_told (answer n) = record { refused = 0; bytes = n }
+written_told (refused k) = record { refused = k; bytes = 0 }

@@ -1,15 +1,15 @@
 // A line in, the text of its reply out: what the desk asks, and a viewer or a page. The question is answered by `questions`, and its line
 // written by `replies`.
 ghost use Rattle.std.specs.Prelude.{List, ◌≡◌, ℕ, suc, length};
-ghost use Rattle.rows.specs.Row.{rowAfter};
-ghost use Rattle.measure.specs.Units.{lastYear};
+ghost use Rattle.rows.specs.Row.{row_after};
+ghost use Rattle.measure.specs.Units.{last_year};
 ghost use Rattle.measure.specs.Epoch.{shoushi};
 ghost use Rattle.words.specs.Line.{word_of};
 ghost use Rattle.words.specs.Text.{◌is◌};
-ghost use Rattle.questions.specs.DeskReply.{deskSaid, Lies};
-ghost use Rattle.replies.specs.ReplyText.{replyText, roomOf};
-ghost use Rattle.ask.specs.AnswerText.{mostNumbers, replyReply, answerText, answerReply};
-ghost use Rattle.ask.specs.Written.{writtenTold};
+ghost use Rattle.questions.specs.DeskReply.{desk_said, Lies};
+ghost use Rattle.replies.specs.ReplyText.{reply_text, room_of};
+ghost use Rattle.ask.specs.AnswerText.{most_numbers, reply_reply, answer_text, answer_reply};
+ghost use Rattle.ask.specs.Written.{written_told};
 
 use lists::YEAR_NUMBERS;
 use measure::LAST_YEAR;
@@ -35,8 +35,8 @@ pub struct Written {
 // the room that a line asks for is refused with 4.
 #[unsafe(no_mangle)]
 pub extern "C" fn lengadriu_ask(line: &[u8], row: &mut [u8]) -> Written
-    ensures value { result ≡ writtenTold (answerReply shoushi line.now (length row.old)) }
-    ensures row_after { row.new ≡ rowAfter (answerReply shoushi line.now (length row.old)) (answerText shoushi line.now) row.old }
+    ensures value { result ≡ written_told (answer_reply shoushi line.now (length row.old)) }
+    ensures writes { row.new ≡ row_after (answer_reply shoushi line.now (length row.old)) (answer_text shoushi line.now) row.old }
 {
     if asks_years(line) {
         let mut numbers = all_numbers();
@@ -59,13 +59,13 @@ const YEARS: usize = LAST_YEAR as usize + 1;
 
 // Room for a number for each year, and for the months of all. What they hold does not show, so that no proof spells it out.
 fn year_numbers() -> [u64; YEARS]
-    ensures { suc lastYear ≡ length result }
+    ensures { suc last_year ≡ length result }
 {
     [0; YEARS]
 }
 
 fn all_numbers() -> [u64; YEARS * YEAR_NUMBERS]
-    ensures { mostNumbers ≡ length result }
+    ensures { most_numbers ≡ length result }
 {
     [0; YEARS * YEAR_NUMBERS]
 }
@@ -73,8 +73,8 @@ fn all_numbers() -> [u64; YEARS * YEAR_NUMBERS]
 // An answer's line, where the row has the room that it asks for.
 fn write_reply(r: DeskAnswer, numbers: &[u64], row: &mut [u8]) -> Written
     requires { Lies r (length numbers.now) }
-    ensures value { result ≡ writtenTold (replyReply (deskSaid r numbers.now) (length row.old)) }
-    ensures row_after { row.new ≡ rowAfter (replyReply (deskSaid r numbers.now) (length row.old)) (replyText (deskSaid r numbers.now)) row.old }
+    ensures value { result ≡ written_told (reply_reply (desk_said r numbers.now) (length row.old)) }
+    ensures writes { row.new ≡ row_after (reply_reply (desk_said r numbers.now) (length row.old)) (reply_text (desk_said r numbers.now)) row.old }
 {
     if row.len() < room_for(r) {
         return Written {
@@ -91,7 +91,7 @@ fn write_reply(r: DeskAnswer, numbers: &[u64], row: &mut [u8]) -> Written
 
 // The room that an answer's line asks for, whatever its numbers are.
 fn room_for(r: DeskAnswer) -> usize
-    ensures { (numbers : List ℕ) → result ≡ roomOf (deskSaid r numbers) }
+    ensures { (numbers : List ℕ) → result ≡ room_of (desk_said r numbers) }
 {
     match r {
         DeskAnswer::Years(_) => YEARS_ROOM,

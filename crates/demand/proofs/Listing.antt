@@ -7,149 +7,149 @@ use Prim.Native.Nat.{ℕ, suc, ◌+◌, ◌-◌, ◌*◌, ◌%◌, ◌≤◌, �
 use native.Mathlib.Nat.{zero-add}
 use native.Mathlib.Omega.{arith}
 use lib.ListN.{length}
-use Rattle.measure.specs.Days.{sixtyName}
-use Rattle.month_law.specs.Calendar.{Calendar, length_of, monthOf, head, monthsIn, yearOf}
+use Rattle.measure.specs.Days.{sixty_name}
+use Rattle.month_law.specs.Calendar.{Calendar, length_of, month_of, head, months_in, year_of}
 use Rattle.month_law.specs.Lawful.{Lawful}
 use Rattle.month_law.specs.Demand.{JustOne}
-use Rattle.month_law.proofs.Rising.{Within, rises-weakly, places_of, values_of}
-use Rattle.month_law.proofs.Months.{InMonth, first-rises, day-in-month, month-of, head-zero, head-rises}
+use Rattle.month_law.proofs.Rising.{Within, rises_weakly, places_of, values_of}
+use Rattle.month_law.proofs.Months.{InMonth, first_rises, day_in_month, month_of_lem, head_zero, head_rises}
 use Rattle.month_law.proofs.Terms.{InList}
-use Rattle.month_law.proofs.Lists.{place-listed}
-use Rattle.month_law.proofs.Runs.{year-listed, year-of, months-run}
+use Rattle.month_law.proofs.Lists.{place_listed}
+use Rattle.month_law.proofs.Runs.{year_listed, year_of_lem, months_run}
 use Rattle.month_law.proofs.Demand.{Ends}
-use Rattle.months.specs.Month.{kind_at, monthOfDay}
-use Rattle.months.proofs.ByTerm.{month-of-day}
-use Rattle.lists.specs.Records.{recordWidth, recordAt}
-use Rattle.lists.proofs.RecordLaws.{recordBy, by_kind}
-use Rattle.lists.specs.Lists.{monthsInRun}
+use Rattle.months.specs.Month.{kind_at, month_of_day}
+use Rattle.months.proofs.ByTerm.{month_of_day_lem}
+use Rattle.lists.specs.Records.{record_width, record_at}
+use Rattle.lists.proofs.RecordLaws.{record_by, by_kind}
+use Rattle.lists.specs.Lists.{months_in_run}
 use Rattle.lists.proofs.RunLaws.{length_run, run_ends}
-use Rattle.demand.specs.Demand.{listing, shownOn, firstIn, lengthIn, LiesIn, Standing, StandsOn, recordOfMonth}
-use Rattle.demand.proofs.Places.{on-run}
+use Rattle.demand.specs.Demand.{listing, shown_on, first_in, length_in, LiesIn, Standing, StandsOn, record_of_month}
+use Rattle.demand.proofs.Places.{on_run}
 
 module _ (c : Calendar) (ok : Lawful c) where
   -- from year 0 on, a year's head counts the months before it
-  months-before : (n : ℕ) → monthsInRun c 0 n ≡ head c n
-  months-before n = omega (arith, run_ends c ok 0 n, head-zero c ok, ap (head c) (zero-add n))
+  months_before : (n : ℕ) → months_in_run c 0 n ≡ head c n
+  months_before n = omega (arith, run_ends c ok 0 n, head_zero c ok, ap (head c) (zero-add n))
 
 module _ (c : Calendar) (ok : Lawful c) {last earliest latest beyond : ℕ} (ends : Ends c last earliest latest beyond) where
-  pub records-are : monthsInRun c 0 (suc last) ≡ beyond
-  records-are = months-before c ok (suc last) ∙ ends.next-head
+  pub records_are : months_in_run c 0 (suc last) ≡ beyond
+  records_are = months_before c ok (suc last) ∙ ends.next_head
 
-  pub numbers-are : length (listing c last) ≡ recordWidth * beyond
-  numbers-are = length_run c 0 (suc last) ∙ ap (λ (k : ℕ). recordWidth * k) records-are
+  pub numbers_are : length (listing c last) ≡ record_width * beyond
+  numbers_are = length_run c 0 (suc last) ∙ ap (λ (k : ℕ). record_width * k) records_are
 
   -- the month at place p of year n
-  module _ (n p : ℕ) (admitted : n ≤ last) (listed : p < monthsIn c n) where
-    pub laid-before : head c n + p < beyond
-    laid-before =
-        omega (arith, ends.next-head, rises-weakly (head c) (head-rises c ok) (suc n) (suc last) (omega arith))
+  module _ (n p : ℕ) (admitted : n ≤ last) (listed : p < months_in c n) where
+    pub laid_before : head c n + p < beyond
+    laid_before =
+        omega (arith, ends.next_head, rises_weakly (head c) (head_rises c ok) (suc n) (suc last) (omega arith))
 
-    pub laid_on : shownOn c last (head c n + p) ≡ recordAt c n p
+    pub laid_on : shown_on c last (head c n + p) ≡ record_at c n p
     laid_on =
-        ap (λ (k : ℕ). shownOn c last (k + p)) (sym (months-before c ok n))
-        ∙ on-run c ok 0 (suc last) n p (omega arith) (subst (λ (m : ℕ). p < monthsIn c m) (sym (zero-add n)) listed)
-        ∙ ap (λ (m : ℕ). recordAt c m p) (zero-add n)
+        ap (λ (k : ℕ). shown_on c last (k + p)) (sym (months_before c ok n))
+        ∙ on_run c ok 0 (suc last) n p (omega arith) (subst (λ (m : ℕ). p < months_in c m) (sym (zero-add n)) listed)
+        ∙ ap (λ (m : ℕ). record_at c m p) (zero-add n)
 
   -- the month on place i
   module _ (i : ℕ) (h : i < beyond) where
     abbrev standing : Standing
-    standing = record { year = yearOf c i; place = i - head c (yearOf c i) }
+    standing = record { year = year_of c i; place = i - head c (year_of c i) }
 
     stands_on : StandsOn c last i standing
     stands_on =
-        let years : Within 0 (suc last) (yearOf c i) =
-        months-run c ok 0 (suc last) (yearOf c i) i (year-listed c ok i)
-        (record { since = omega (arith, head-zero c ok); until = omega (arith, ends.next-head) }) in
+        let years : Within 0 (suc last) (year_of c i) =
+        months_run c ok 0 (suc last) (year_of c i) i (year_listed c ok i)
+        (record { since = omega (arith, head_zero c ok); until = omega (arith, ends.next_head) }) in
         record {
           admitted = omega (arith, years);
-          listed = omega (arith, year-listed c ok i);
-          counted = omega (arith, year-listed c ok i);
+          listed = omega (arith, year_listed c ok i);
+          counted = omega (arith, year_listed c ok i);
         }
 
-    stands-alone : (s : Standing) → StandsOn c last i s → s ≡ standing
-    stands-alone s x = λ j. record { year = year j; place = place j }
+    stands_alone : (s : Standing) → StandsOn c last i s → s ≡ standing
+    stands_alone s x = λ j. record { year = year j; place = place j }
       where
-        year : s.year ≡ yearOf c i
-        year = year-of c ok i s.year (subst (InList c s.year) x.counted (place-listed c ok s.year s.place x.listed))
+        year : s.year ≡ year_of c i
+        year = year_of_lem c ok i s.year (subst (InList c s.year) x.counted (place_listed c ok s.year s.place x.listed))
 
-        place : s.place ≡ i - head c (yearOf c i)
+        place : s.place ≡ i - head c (year_of c i)
         place = omega (arith, x.counted, ap (head c) year)
 
-    pub one-stands : JustOne (StandsOn c last i)
-    one-stands = record { it = standing; such = stands_on; only = stands-alone }
+    pub one_stands : JustOne (StandsOn c last i)
+    one_stands = record { it = standing; such = stands_on; only = stands_alone }
 
     -- its record, and the first day and the length there
-    shown-on : shownOn c last i ≡ recordBy (c.first i) (c.first (suc i)) (kind_at c standing.year standing.place)
-    shown-on =
-        ap (shownOn c last) (sym stands_on.counted)
+    shown_on_lem : shown_on c last i ≡ record_by (c.first i) (c.first (suc i)) (kind_at c standing.year standing.place)
+    shown_on_lem =
+        ap (shown_on c last) (sym stands_on.counted)
         ∙ laid_on standing.year standing.place stands_on.admitted stands_on.listed
         ∙ sym (by_kind c standing.year standing.place)
-        ∙ ap (λ (m : ℕ). recordBy (c.first m) (c.first (suc m)) (kind_at c standing.year standing.place)) stands_on.counted
+        ∙ ap (λ (m : ℕ). record_by (c.first m) (c.first (suc m)) (kind_at c standing.year standing.place)) stands_on.counted
 
-    first-shown : firstIn (shownOn c last i) ≡ c.first i
-    first-shown = ap firstIn shown-on
+    first_shown : first_in (shown_on c last i) ≡ c.first i
+    first_shown = ap first_in shown_on_lem
 
-    length-shown : lengthIn (shownOn c last i) ≡ length_of c i
-    length-shown = ap lengthIn shown-on
+    length_shown : length_in (shown_on c last i) ≡ length_of c i
+    length_shown = ap length_in shown_on_lem
 
     -- so the days that lie in it are those of the month
-    lies-month : (d : ℕ) → LiesIn (shownOn c last i) d → InMonth c i d
-    lies-month d x = record { since = omega (arith, x, first-shown); until = omega (arith, x, first-shown, length-shown, first-rises c ok i) }
+    lies_month : (d : ℕ) → LiesIn (shown_on c last i) d → InMonth c i d
+    lies_month d x = record { since = omega (arith, x, first_shown); until = omega (arith, x, first_shown, length_shown, first_rises c ok i) }
 
-    month-lies : (d : ℕ) → InMonth c i d → LiesIn (shownOn c last i) d
-    month-lies d x = record { since = omega (arith, x, first-shown); until = omega (arith, x, first-shown, length-shown) }
+    month_lies : (d : ℕ) → InMonth c i d → LiesIn (shown_on c last i) d
+    month_lies d x = record { since = omega (arith, x, first_shown); until = omega (arith, x, first_shown, length_shown) }
 
   -- each day between lies in the record of its month, and in no other
   module _ (d : ℕ) (h : Within (c.first 0) (c.first beyond) d) where
-    month-held : InMonth c (monthOf c d) d
-    month-held = day-in-month c ok d h.since
+    month_held : InMonth c (month_of c d) d
+    month_held = day_in_month c ok d h.since
 
-    month-before : monthOf c d < beyond
-    month-before = (places_of c.first (first-rises c ok) d (monthOf c d) 0 beyond month-held h).until
+    month_before : month_of c d < beyond
+    month_before = (places_of c.first (first_rises c ok) d (month_of c d) 0 beyond month_held h).until
 
-    lies-there : LiesIn (shownOn c last (monthOf c d)) d
-    lies-there = month-lies (monthOf c d) month-before d month-held
+    lies_there : LiesIn (shown_on c last (month_of c d)) d
+    lies_there = month_lies (month_of c d) month_before d month_held
 
-    pub one-day : JustOne (λ (i : ℕ). (i < beyond) × LiesIn (shownOn c last i) d)
-    one-day =
+    pub one_day : JustOne (λ (i : ℕ). (i < beyond) × LiesIn (shown_on c last i) d)
+    one_day =
         record {
-          it = monthOf c d;
-          such = (month-before, lies-there);
-          only = λ i x. month-of c ok d i (lies-month i x.0 d x.1);
+          it = month_of c d;
+          such = (month_before, lies_there);
+          only = λ i x. month_of_lem c ok d i (lies_month i x.0 d x.1);
         }
 
     -- which is what is found
-    found-on : shownOn c last (monthOf c d) ≡ recordOfMonth (monthOfDay c d)
-    found-on = shown-on (monthOf c d) month-before ∙ ap recordOfMonth (sym (month-of-day c d))
+    found_on : shown_on c last (month_of c d) ≡ record_of_month (month_of_day c d)
+    found_on = shown_on_lem (month_of c d) month_before ∙ ap record_of_month (sym (month_of_day_lem c d))
 
-    pub one_found : JustOne (λ (i : ℕ). (i < beyond) × (shownOn c last i ≡ recordOfMonth (monthOfDay c d)))
+    pub one_found : JustOne (λ (i : ℕ). (i < beyond) × (shown_on c last i ≡ record_of_month (month_of_day c d)))
     one_found =
         record {
-          it = monthOf c d;
-          such = (month-before, found-on);
+          it = month_of c d;
+          such = (month_before, found_on);
           only =
               λ i x.
-              month-of c ok d i
-              (lies-month i x.0 d (subst (λ (four : List ℕ). LiesIn four d) (found-on ∙ sym x.1) lies-there));
+              month_of_lem c ok d i
+              (lies_month i x.0 d (subst (λ (four : List ℕ). LiesIn four d) (found_on ∙ sym x.1) lies_there));
         }
 
     -- and its name runs on from that of its month's first day
-    pub named-within : sixtyName d ≡ (sixtyName (monthOfDay c d).first + ((monthOfDay c d).day - 1)) % 60
-    named-within = rw (month-of-day c d) (omega (arith, month-held))
+    pub named_within : sixty_name d ≡ (sixty_name (month_of_day c d).first + ((month_of_day c d).day - 1)) % 60
+    named_within = rw (month_of_day_lem c d) (omega (arith, month_held))
 
   -- and no other day lies in one
-  module _ (d i : ℕ) (h : i < beyond) (x : LiesIn (shownOn c last i) d) where
-    pub day-between : Within (c.first 0) (c.first beyond) d
-    day-between =
-        values_of c.first (first-rises c ok) d i 0 beyond (lies-month i h d x) (record { since = omega arith; until = h })
+  module _ (d i : ℕ) (h : i < beyond) (x : LiesIn (shown_on c last i) d) where
+    pub day_between : Within (c.first 0) (c.first beyond) d
+    day_between =
+        values_of c.first (first_rises c ok) d i 0 beyond (lies_month i h d x) (record { since = omega arith; until = h })
 
-    is-month : i ≡ monthOf c d
-    is-month = month-of c ok d i (lies-month i h d x)
+    is_month : i ≡ month_of c d
+    is_month = month_of_lem c ok d i (lies_month i h d x)
 
-    pub lies-found : shownOn c last i ≡ recordOfMonth (monthOfDay c d)
-    lies-found = ap (shownOn c last) is-month ∙ found-on d day-between
+    pub lies_found : shown_on c last i ≡ record_of_month (month_of_day c d)
+    lies_found = ap (shown_on c last) is_month ∙ found_on d day_between
 
-    pub lies-stands : StandsOn c last i (record { year = (monthOfDay c d).year; place = (monthOfDay c d).place })
-    lies-stands =
-        rw (month-of-day c d)
-        (subst (λ (l : ℕ). StandsOn c last i (record { year = yearOf c l; place = l - head c (yearOf c l) })) is-month (stands_on i h))
+    pub lies_stands : StandsOn c last i (record { year = (month_of_day c d).year; place = (month_of_day c d).place })
+    lies_stands =
+        rw (month_of_day_lem c d)
+        (subst (λ (l : ℕ). StandsOn c last i (record { year = year_of c l; place = l - head c (year_of c l) })) is_month (stands_on i h))

@@ -5,9 +5,9 @@ ghost use Rattle.rows.specs.Row.{over};
 ghost use Rattle.measure.specs.Epoch.{shoushi};
 ghost use Rattle.reads.specs.Given.{Within};
 ghost use Rattle.questions.specs.Question.{longest};
-ghost use Rattle.replies.specs.ListText.{yearsRoom};
-ghost use Rattle.ask.specs.AnswerText.{answerText};
-ghost use Rattle.desk.specs.Input.{withMore, lastText, Left, withBlank, withArgument, Begins, AskedBy};
+ghost use Rattle.replies.specs.ListText.{years_room};
+ghost use Rattle.ask.specs.AnswerText.{answer_text};
+ghost use Rattle.desk.specs.Input.{with_more, last_text, Left, with_blank, with_argument, Begins, AskedBy};
 
 use ask::YEARS_ROOM;
 use frames::LINE_END;
@@ -24,10 +24,10 @@ enum Turn {
 
 // The text of the reply to a line, from the buffer's start; how many bytes it has.
 fn answered(line: &[u8], buf: &mut [u8]) -> usize
-    requires { yearsRoom ≤ length buf.old }
-    ensures upper_bound { result ≤ length buf.old }
-    ensures value { result ≡ length (answerText shoushi line.now) }
-    ensures buf_after { buf.new ≡ over (answerText shoushi line.now) buf.old }
+    requires { years_room ≤ length buf.old }
+    ensures within { result ≤ length buf.old }
+    ensures value { result ≡ length (answer_text shoushi line.now) }
+    ensures buf_after { buf.new ≡ over (answer_text shoushi line.now) buf.old }
 {
     let written = ask::lengadriu_ask(line, buf);
     written.bytes as usize
@@ -44,7 +44,7 @@ fn write_out(out: &[u8]) -> bool {
 
 // Answers a line; whether the reply was written out.
 fn answer_line(line: &[u8], buf: &mut [u8]) -> bool
-    requires { yearsRoom ≤ length buf.old }
+    requires { years_room ≤ length buf.old }
 {
     let n = answered(line, buf);
     write_out(&buf[..n])
@@ -53,9 +53,9 @@ fn answer_line(line: &[u8], buf: &mut [u8]) -> bool
 // One byte more of a line; how many are kept then. A full buffer drops the byte: a line so long is refused.
 fn keep(line: &mut [u8], kept: usize, b: u8) -> usize
     requires { kept ≤ length line.old }
-    ensures upper_bound { result ≤ length line.old }
-    ensures value { result ≡ length (withMore (length line.old) (take kept line.old) b) }
-    ensures line_after { line.new ≡ over (withMore (length line.old) (take kept line.old) b) line.old }
+    ensures within { result ≤ length line.old }
+    ensures value { result ≡ length (with_more (length line.old) (take kept line.old) b) }
+    ensures writes { line.new ≡ over (with_more (length line.old) (take kept line.old) b) line.old }
 {
     if kept < line.len() {
         line[kept] = b;
@@ -66,7 +66,7 @@ fn keep(line: &mut [u8], kept: usize, b: u8) -> usize
 
 // Answers the lines that end in a block, and keeps what it has of the next. A failed write ends it.
 fn answer_block(block: &[u8], line: &mut [u8], kept: usize, buf: &mut [u8]) -> Turn
-    requires { (0 < length block.now) × (kept ≤ length line.old) × (yearsRoom ≤ length buf.old) }
+    requires { (0 < length block.now) × (kept ≤ length line.old) × (years_room ≤ length buf.old) }
     ensures { Left result line.new (length line.old) (take kept line.old) block.now }
 {
     let mut n = kept;
@@ -87,10 +87,10 @@ fn answer_block(block: &[u8], line: &mut [u8], kept: usize, buf: &mut [u8]) -> T
 
 // The text of the reply to the last line, where one was begun; how many bytes it has.
 fn last_reply(line: &[u8], buf: &mut [u8]) -> usize
-    requires { yearsRoom ≤ length buf.old }
-    ensures upper_bound { result ≤ length buf.old }
-    ensures value { result ≡ length (lastText line.now) }
-    ensures buf_after { buf.new ≡ over (lastText line.now) buf.old }
+    requires { years_room ≤ length buf.old }
+    ensures within { result ≤ length buf.old }
+    ensures value { result ≡ length (last_text line.now) }
+    ensures buf_after { buf.new ≡ over (last_text line.now) buf.old }
 {
     if line.len() == 0 {
         return 0;
@@ -100,7 +100,7 @@ fn last_reply(line: &[u8], buf: &mut [u8]) -> usize
 
 // A block as it was read. Where nothing was, the input has ended, and so has a line that was begun.
 fn answer_read(block: &[u8], line: &mut [u8], kept: usize, buf: &mut [u8]) -> Turn
-    requires { (kept ≤ length line.old) × (yearsRoom ≤ length buf.old) }
+    requires { (kept ≤ length line.old) × (years_room ≤ length buf.old) }
     ensures { Left result line.new (length line.old) (take kept line.old) block.now }
 {
     if block.len() == 0 {
@@ -122,7 +122,7 @@ fn read_block(block: &mut [u8]) -> Got
 // Nothing says that the input ends, so the turns are counted down from a number that no run uses up. A failed read is told, and a line that
 // was begun has no reply then: its end was not seen.
 fn answer_lines(line: &mut [u8], buf: &mut [u8])
-    requires { yearsRoom ≤ length buf.old }
+    requires { years_room ≤ length buf.old }
 {
     let mut block = io::large_buffer();
     let mut kept: usize = 0;
@@ -146,9 +146,9 @@ fn answer_lines(line: &mut [u8], buf: &mut [u8])
 // A blank before each argument but the first.
 fn blank_before(line: &mut [u8], n: usize, i: usize) -> usize
     requires { n ≤ length line.old }
-    ensures upper_bound { result ≤ length line.old }
-    ensures value { result ≡ length (withBlank (length line.old) i (take n line.old)) }
-    ensures line_after { line.new ≡ over (withBlank (length line.old) i (take n line.old)) line.old }
+    ensures within { result ≤ length line.old }
+    ensures value { result ≡ length (with_blank (length line.old) i (take n line.old)) }
+    ensures writes { line.new ≡ over (with_blank (length line.old) i (take n line.old)) line.old }
 {
     if i > 1 {
         return keep(line, n, b' ');
@@ -159,8 +159,8 @@ fn blank_before(line: &mut [u8], n: usize, i: usize) -> usize
 // How many bytes a line has with an argument after its first. Where the argument did not fit the line is full, and is refused.
 fn with_argument(error: i32, from: usize, got: usize, room: usize) -> usize
     requires { from + got ≤ room }
-    ensures value { result ≡ withArgument error from got room }
-    ensures lower_bound { (from ≤ result) × (result ≤ room) }
+    ensures value { result ≡ with_argument error from got room }
+    ensures bounds { (from ≤ result) × (result ≤ room) }
 {
     if error == 0 { from + got } else { room }
 }
@@ -168,8 +168,8 @@ fn with_argument(error: i32, from: usize, got: usize, room: usize) -> usize
 // Argument i, of so many, after the line's first n bytes; how many the line then has.
 fn join(line: &mut [u8], n: usize, i: usize, count: usize) -> usize
     requires { (n ≤ length line.old) × (i < count) }
-    ensures upper_bound { result ≤ length line.old }
-    ensures begins { Begins (take result line.new) (withBlank (length line.old) i (take n line.old)) }
+    ensures within { result ≤ length line.old }
+    ensures begins { Begins (take result line.new) (with_blank (length line.old) i (take n line.old)) }
 {
     let from = blank_before(line, n, i);
     let got = os::arg(i, &mut line[from..]);
@@ -202,7 +202,7 @@ fn join_arguments(line: &mut [u8], count: usize) -> Asked
 
 // A question of the arguments where there are any, else those of the input's lines.
 fn answer(line: &mut [u8], buf: &mut [u8])
-    requires { yearsRoom ≤ length buf.old }
+    requires { years_room ≤ length buf.old }
 {
     match join_arguments(line, os::arg_count()) {
         Asked::Line(n) => {

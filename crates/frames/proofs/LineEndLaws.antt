@@ -10,37 +10,37 @@ use lib.ListN.{length, get_or, drop, length-drop}
 use lib.Seq.{take-length, drop-cons}
 use Rattle.bytes.specs.Bytes.{index_of, index_after, slice}
 use Rattle.rows.specs.Choice.{if◌then◌else◌, ◌=?◌}
-use Rattle.frames.specs.LineEnds.{lineEnd, lineLength, restAfter}
+use Rattle.frames.specs.LineEnds.{line_end, line_length, rest_after}
 
 -- a line is as long as the search for its end says
-pub length-sought : (input : List ℕ) → index_of lineEnd (slice 0 (length input) input) ≡ lineLength input
-unfolding slice index_of index_after lineLength
-length-sought input = rw take-length (sought input)
+pub length_sought : (input : List ℕ) → index_of line_end (slice 0 (length input) input) ≡ line_length input
+unfolding slice index_of index_after line_length
+length_sought input = rw take-length (sought input)
   where
     ends : (t : Bool) (n : ℕ) → index_after t n ≡ (if t then 0 else suc n)
     ends true n = refl
     ends false n = refl
 
-    sought : (bs : List ℕ) → index_of lineEnd bs ≡ lineLength bs
+    sought : (bs : List ℕ) → index_of line_end bs ≡ line_length bs
     sought [] = refl
-    sought (b ∷ bs) = rw (sought bs) (ends (b =? lineEnd) (lineLength bs))
+    sought (b ∷ bs) = rw (sought bs) (ends (b =? line_end) (line_length bs))
 
 -- one byte more of a line
-pub length-step : (input : List ℕ) (n : ℕ) → n < length input
-    → lineLength (drop n input) ≡ (if get_or input n 0 =? lineEnd then 0 else suc (lineLength (drop (n + 1) input)))
-unfolding lineLength
-length-step input n h = rw (add-one, drop-cons input n 0)
+pub length_step : (input : List ℕ) (n : ℕ) → n < length input
+    → line_length (drop n input) ≡ (if get_or input n 0 =? line_end then 0 else suc (line_length (drop (n + 1) input)))
+unfolding line_length
+length_step input n h = rw (add-one, drop-cons input n 0)
 
-pub length_most : (input : List ℕ) → lineLength input ≤ length input
-unfolding lineLength
+pub length_most : (input : List ℕ) → line_length input ≤ length input
+unfolding line_length
 length_most [] = omega arith
-length_most (b ∷ bs) = most (b =? lineEnd) (lineLength bs) (length bs) (length_most bs)
+length_most (b ∷ bs) = most (b =? line_end) (line_length bs) (length bs) (length_most bs)
   where
     most : (t : Bool) (m n : ℕ) → m ≤ n → (if t then 0 else suc m) ≤ suc n
     most true m n h = omega arith
     most false m n h = omega arith
 
 -- what is handed on is shorter
-pub rest-length : (n : ℕ) (input : List ℕ) → length (restAfter n input) ≡ length input - (n + 1)
-unfolding restAfter
-rest-length n input = length-drop (n + 1) input
+pub rest_length : (n : ℕ) (input : List ℕ) → length (rest_after n input) ≡ length input - (n + 1)
+unfolding rest_after
+rest_length n input = length-drop (n + 1) input

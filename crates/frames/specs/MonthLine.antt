@@ -2,11 +2,11 @@
 -- Assumes nothing.
 use Rattle.std.specs.Prelude.{List, [], ◌∷◌, ◌++◌, ℕ, ◌+◌, ◌/◌, ◌%◌, ◌^◌, ◌<◌, length}
 use Rattle.rows.specs.Choice.{if◌then◌else◌, ◌=?◌}
-use Rattle.rows.specs.Reply.{Reply, answer, refused, badLine}
-use Rattle.months.specs.Kind.{number_in, markIn}
+use Rattle.rows.specs.Reply.{Reply, answer, refused, bad_line}
+use Rattle.months.specs.Kind.{number_in, mark_in}
 use Rattle.months.specs.Month.{MonthOfDay}
-use Rattle.frames.specs.LineEnds.{lineEnd}
-use Rattle.frames.specs.Digits.{digitsOf, numberSpelled}
+use Rattle.frames.specs.LineEnds.{line_end}
+use Rattle.frames.specs.Digits.{digits_of, number_spelled}
 
 -- what a line shows of a month; the leap mark is 1 for leap, else 0
 pub record Fields : Type 0 where
@@ -21,18 +21,18 @@ shown m =
     record {
       year = m.year;
       number = number_in m.kind;
-      mark = markIn m.kind;
+      mark = mark_in m.kind;
       first = m.first;
       length = m.length;
     }
 
 -- year 3 digits, number 1, leap 1, first day w, length 2
-unfoldable pub monthLine : ℕ → Fields → List ℕ
-monthLine w f = digitsOf 3 f.year ++ digitsOf 1 f.number ++ digitsOf 1 f.mark ++ digitsOf w f.first ++ digitsOf 2 f.length
+unfoldable pub month_line : ℕ → Fields → List ℕ
+month_line w f = digits_of 3 f.year ++ digits_of 1 f.number ++ digits_of 1 f.mark ++ digits_of w f.first ++ digits_of 2 f.length
 
 -- how many these are
-abbrev pub monthDigits : ℕ → ℕ
-monthDigits w = 5 + w + 2
+abbrev pub month_digits : ℕ → ℕ
+month_digits w = 5 + w + 2
 
 -- each field has room in its digits
 pub record Fits (w : ℕ) (f : Fields) : Type 0 where
@@ -44,8 +44,8 @@ pub record Fits (w : ℕ) (f : Fields) : Type 0 where
 
 -- the fields of a line that is read as one number: the last two digits are the length, the w before them the first day, and so on;
 -- p is 16 ^ w
-unfoldable pub fieldsIn : ℕ → ℕ → Fields
-fieldsIn p n =
+unfoldable pub fields_in : ℕ → ℕ → Fields
+fields_in p n =
     record {
       year = n / 256 / p / 256;
       number = n / 256 / p / 16 % 16;
@@ -55,18 +55,18 @@ fieldsIn p n =
     }
 
 abbrev pub fields_of : ℕ → Reply ℕ → Reply Fields
-fields_of p (answer n) = answer (fieldsIn p n)
+fields_of p (answer n) = answer (fields_in p n)
 fields_of p (refused k) = refused k
 
 -- what a line reads to: the right number of digits, and nothing else
-unfoldable pub readFields : ℕ → List ℕ → Reply Fields
-readFields w line = if length line =? monthDigits w then fields_of (16 ^ w) (numberSpelled line) else refused badLine
+unfoldable pub read_fields : ℕ → List ℕ → Reply Fields
+read_fields w line = if length line =? month_digits w then fields_of (16 ^ w) (number_spelled line) else refused bad_line
 
 -- a refusal is E and its number
-unfoldable pub refusalLine : ℕ → List ℕ
-refusalLine k = digitsOf 1 0xE ++ digitsOf 1 k
+unfoldable pub refusal_line : ℕ → List ℕ
+refusal_line k = digits_of 1 0xE ++ digits_of 1 k
 
 -- the line of a reply, with its line end
 unfoldable pub line_of : ℕ → Reply MonthOfDay → List ℕ
-line_of w (answer m) = monthLine w (shown m) ++ (lineEnd ∷ [])
-line_of w (refused k) = refusalLine k ++ (lineEnd ∷ [])
+line_of w (answer m) = month_line w (shown m) ++ (line_end ∷ [])
+line_of w (refused k) = refusal_line k ++ (line_end ∷ [])

@@ -1,13 +1,13 @@
 // Hexadecimal frames, one a line: where a line ends, digits both ways by their number, the line that asks for a day, and the line of a
 // reply.
 ghost use Rattle.std.specs.Prelude.{◌≡◌, [], ◌∷◌, ◌++◌, ◌+◌, ◌^◌, ◌≤◌, ◌<◌, length};
-ghost use Rattle.rows.specs.Reply.{answerSaid};
+ghost use Rattle.rows.specs.Reply.{answer_said};
 ghost use Rattle.rows.specs.Row.{over};
-ghost use Rattle.months.specs.Month.{monthSaid};
-ghost use Rattle.frames.specs.LineEnds.{lineEnd, lineLength, restAfter};
-ghost use Rattle.frames.specs.Digits.{digitByte, digitsOf, digitOf, digitSaid, numberSpelled};
-ghost use Rattle.frames.specs.DayLine.{dayDigits, dayAsked};
-ghost use Rattle.frames.specs.MonthLine.{shown, Fits, monthDigits, monthLine, refusalLine};
+ghost use Rattle.months.specs.Month.{month_said};
+ghost use Rattle.frames.specs.LineEnds.{line_end, line_length, rest_after};
+ghost use Rattle.frames.specs.Digits.{digit_byte, digits_of, digit_of, digit_said, number_spelled};
+ghost use Rattle.frames.specs.DayLine.{day_digits, day_asked};
+ghost use Rattle.frames.specs.MonthLine.{shown, Fits, month_digits, month_line, refusal_line};
 
 use months::Month;
 use months::kinds::{leap_mark, month_number};
@@ -20,14 +20,14 @@ pub const DAY_DIGITS: usize = 5;
 
 // How many bytes the first line of the input has: those before the line end, or all.
 pub fn line_len(input: &[u8]) -> usize
-    ensures { result ≡ lineLength input.now }
+    ensures { result ≡ line_length input.now }
 {
     bytes::scan::find(input, 0, input.len(), LINE_END)
 }
 
 // The rest of the input, after a line of n bytes and its line end. It is handed on as it stands.
 pub fn rest<'a>(input: &'a [u8], n: usize) -> &'a [u8]
-    ensures { result.now ≡ restAfter n input.now }
+    ensures { result.now ≡ rest_after n input.now }
 {
     if n < input.len() {
         &input[n + 1..]
@@ -38,7 +38,7 @@ pub fn rest<'a>(input: &'a [u8], n: usize) -> &'a [u8]
 
 // The day that a line asks for. A line that is not exactly five digits is refused with 5.
 pub fn day_asked(line: &[u8]) -> Answer
-    ensures { answerSaid result ≡ dayAsked dayDigits line.now }
+    ensures { answer_said result ≡ day_asked day_digits line.now }
 {
     if line.len() != DAY_DIGITS {
         return Answer::Refused(BAD_LINE);
@@ -48,9 +48,9 @@ pub fn day_asked(line: &[u8]) -> Answer
 
 // A month's line, with w digits for its day; how many bytes it has. Each field has room in its digits, so that no place is lost.
 pub fn put_month_line(m: Month, w: usize, out: &mut [u8]) -> usize
-    requires { (monthDigits w + 1 ≤ length out.old) × Fits w (shown (monthSaid m)) }
-    ensures value { result ≡ monthDigits w + 1 }
-    ensures out_after { out.new ≡ over (monthLine w (shown (monthSaid m)) ++ (lineEnd ∷ [])) out.old }
+    requires { (month_digits w + 1 ≤ length out.old) × Fits w (shown (month_said m)) }
+    ensures value { result ≡ month_digits w + 1 }
+    ensures writes { out.new ≡ over (month_line w (shown (month_said m)) ++ (line_end ∷ [])) out.old }
 {
     put_month_name(m, out);
     put_digits(m.first, w, &mut out[5..]);
@@ -63,8 +63,8 @@ pub fn put_month_line(m: Month, w: usize, out: &mut [u8]) -> usize
 
 // The five digits with which it starts: year, number and leap mark.
 fn put_month_name(m: Month, out: &mut [u8])
-    requires { (5 ≤ length out.old) × ((shown (monthSaid m)).year < 16 ^ 3) × ((shown (monthSaid m)).number < 16 ^ 1) × ((shown (monthSaid m)).mark < 16 ^ 1) }
-    ensures { out.new ≡ over (digitsOf 3 (shown (monthSaid m)).year ++ digitsOf 1 (shown (monthSaid m)).number ++ digitsOf 1 (shown (monthSaid m)).mark) out.old }
+    requires { (5 ≤ length out.old) × ((shown (month_said m)).year < 16 ^ 3) × ((shown (month_said m)).number < 16 ^ 1) × ((shown (month_said m)).mark < 16 ^ 1) }
+    ensures { out.new ≡ over (digits_of 3 (shown (month_said m)).year ++ digits_of 1 (shown (month_said m)).number ++ digits_of 1 (shown (month_said m)).mark) out.old }
 {
     let kind = m.kind;
     put_digits(m.year, 3, out);
@@ -76,7 +76,7 @@ fn put_month_name(m: Month, out: &mut [u8])
 pub fn put_refusal_line(k: u64, out: &mut [u8]) -> usize
     requires { (3 ≤ length out.old) × (k < 16 ^ 1) }
     ensures value { result ≡ 3 }
-    ensures out_after { out.new ≡ over (refusalLine k ++ (lineEnd ∷ [])) out.old }
+    ensures writes { out.new ≡ over (refusal_line k ++ (line_end ∷ [])) out.old }
 {
     put_digits(0xE, 1, out);
     put_digits(k, 1, &mut out[1..]);
@@ -87,7 +87,7 @@ pub fn put_refusal_line(k: u64, out: &mut [u8]) -> usize
 // A number that has room in w digits, as these, at the row's start. They are found from the last to the first.
 fn put_digits(n: u64, w: usize, out: &mut [u8])
     requires { (w ≤ length out.old) × (n < 16 ^ w) }
-    ensures { out.new ≡ over (digitsOf w n) out.old }
+    ensures { out.new ≡ over (digits_of w n) out.old }
 {
     let mut high = n;
     let mut left = w;
@@ -100,7 +100,7 @@ fn put_digits(n: u64, w: usize, out: &mut [u8])
 
 fn digit_byte(v: u64) -> u8
     requires { v < 16 }
-    ensures { result ≡ digitByte v }
+    ensures { result ≡ digit_byte v }
 {
     if v < 10 {
         (v + 48) as u8
@@ -112,7 +112,7 @@ fn digit_byte(v: u64) -> u8
 // The number that digits spell, few enough for 64 bits. A byte that is no digit is refused with 5.
 fn number_spelled(digits: &[u8]) -> Answer
     requires { length digits.now ≤ 15 }
-    ensures { answerSaid result ≡ numberSpelled digits.now }
+    ensures { answer_said result ≡ number_spelled digits.now }
 {
     let mut n: u64 = 0;
     let mut i: usize = 0;
@@ -134,7 +134,7 @@ enum Digit {
 
 // What a byte is worth as a digit.
 fn digit_of(b: u8) -> Digit
-    ensures { digitSaid result ≡ digitOf b }
+    ensures { digit_said result ≡ digit_of b }
 {
     match b {
         b'0'..=b'9' => Digit::Worth(b as u64 - 48),

@@ -8,10 +8,10 @@ use native.Mathlib.Nat.{mul-le-mul_right, sub-add_cancel}
 use native.Mathlib.Omega.{arith}
 use Rattle.measure.specs.Units.{day}
 use Rattle.measure.proofs.Product.{product}
-use Rattle.inequalities.specs.Law.{Law, fine, taken, law, lawA, lawB, lawMoon}
+use Rattle.inequalities.specs.Law.{Law, fine, taken, law, law_a, law_b, law_moon}
 use Rattle.inequalities.specs.Evaluation.{reach, Evaluated}
-use Rattle.inequalities.proofs.Evaluation.{growth, taken-le}
-use Rattle.inequalities.specs.Solar.{fastLimit, slowLimit}
+use Rattle.inequalities.proofs.Evaluation.{growth, taken_le}
+use Rattle.inequalities.specs.Solar.{fast_limit, slow_limit}
 use Rattle.inequalities.specs.Limits.{middle}
 
 -- the exact cubic is the gain less the loss, over day × day × day
@@ -26,61 +26,61 @@ cubed = day * day * day
 
 -- the law is less than n units above the cubic, and less than n below it
 pub record Within (n : ℕ) (c : Law) (t : ℕ) : Type 0 where
-  pub not-above : law c t * cubed + loss c t < gain c t + n * cubed
-  pub not-below : gain c t < law c t * cubed + loss c t + n * cubed
+  pub not_above : law c t * cubed + loss c t < gain c t + n * cubed
+  pub not_below : gain c t < law c t * cubed + loss c t + n * cubed
 
 module _ (c : Law) (t : ℕ) (h : Evaluated c t) where
   -- what is taken away, against the exact loss
-  growth-below : growth c t * day * (t * t) ≤ c.third * fine * t * (t * t)
-  growth-below = mul-le-mul_right (t * t) (omega arith)
+  growth_below : growth c t * day * (t * t) ≤ c.third * fine * t * (t * t)
+  growth_below = mul-le-mul_right (t * t) (omega arith)
 
-  growth-above : c.third * fine * t * (t * t) ≤ (growth c t * day + day) * (t * t)
-  growth-above = mul-le-mul_right (t * t) (omega arith)
+  growth_above : c.third * fine * t * (t * t) ≤ (growth c t * day + day) * (t * t)
+  growth_above = mul-le-mul_right (t * t) (omega arith)
 
-  taken-below : taken c t * day * t ≤ (c.second * fine + growth c t) * t * t
+  taken_below : taken c t * day * t ≤ (c.second * fine + growth c t) * t * t
   unfolding taken
-  taken-below = mul-le-mul_right t (omega arith)
+  taken_below = mul-le-mul_right t (omega arith)
 
-  taken-above : (c.second * fine + growth c t) * t * t ≤ (taken c t * day + day) * t
+  taken_above : (c.second * fine + growth c t) * t * t ≤ (taken c t * day + day) * t
   unfolding taken
-  taken-above = mul-le-mul_right t (omega arith)
+  taken_above = mul-le-mul_right t (omega arith)
 
-  loss-least : taken c t * t * day * day ≤ fine * loss c t
-  loss-least = omega (arith, growth-below, taken-below)
+  loss_least : taken c t * t * day * day ≤ fine * loss c t
+  loss_least = omega (arith, growth_below, taken_below)
 
-  loss-most : fine * loss c t ≤ taken c t * t * day * day + day * day * t + day * (t * t)
-  loss-most = omega (arith, growth-above, taken-above)
+  loss_most : fine * loss c t ≤ taken c t * t * day * day + day * day * t + day * (t * t)
+  loss_most = omega (arith, growth_above, taken_above)
 
   rests : day * day * t + day * (t * t) ≤ (reach + reach * reach) * cubed
   rests = omega (arith, product t t (reach * day) (reach * day) h.2 h.2)
 
   -- what is left, against the gain
   left : (c.first * fine - taken c t) * t + taken c t * t ≡ c.first * fine * t
-  left = omega (arith, ap (λ (x : ℕ). x * t) (sub-add_cancel (taken-le c t h)))
+  left = omega (arith, ap (λ (x : ℕ). x * t) (sub-add_cancel (taken_le c t h)))
 
-  law-below : law c t * fine * day ≤ (c.first * fine - taken c t) * t
+  law_below : law c t * fine * day ≤ (c.first * fine - taken c t) * t
   unfolding law
-  law-below = omega arith
+  law_below = omega arith
 
-  law-above : (c.first * fine - taken c t) * t < law c t * fine * day + fine * day
+  law_above : (c.first * fine - taken c t) * t < law c t * fine * day + fine * day
   unfolding law
-  law-above = omega arith
+  law_above = omega arith
 
-  pub within-one : Within 1 c t
-  within-one =
+  pub within_one : Within 1 c t
+  within_one =
       record {
-        not-above = omega (arith, loss-most, rests, left, law-below);
-        not-below = omega (arith, loss-least, left, law-above);
+        not_above = omega (arith, loss_most, rests, left, law_below);
+        not_below = omega (arith, loss_least, left, law_above);
       }
 
-  pub within-two : Within 2 c t
-  within-two = omega (arith, within-one)
+  pub within_two : Within 2 c t
+  within_two = omega (arith, within_one)
 
-pub remark-A : (t : ℕ) → t ≤ fastLimit → Within 2 lawA t
-remark-A t h = within-two lawA t (omega arith)
+pub remark_a : (t : ℕ) → t ≤ fast_limit → Within 2 law_a t
+remark_a t h = within_two law_a t (omega arith)
 
-pub remark-B : (t : ℕ) → t ≤ slowLimit → Within 2 lawB t
-remark-B t h = within-two lawB t (omega arith)
+pub remark_b : (t : ℕ) → t ≤ slow_limit → Within 2 law_b t
+remark_b t h = within_two law_b t (omega arith)
 
-pub remark-moon : (n : ℕ) → n ≤ middle * day → Within 2 lawMoon n
-remark-moon n h = within-two lawMoon n (omega arith)
+pub remark_moon : (n : ℕ) → n ≤ middle * day → Within 2 law_moon n
+remark_moon n h = within_two law_moon n (omega arith)

@@ -11,23 +11,23 @@ use native.Mathlib.Omega.{arith}
 use borrow.Author.Tests.{leb-true, leb-false, ltb-true, ltb-false}
 use Rattle.rows.specs.Choice.{if◌then◌else◌, ◌≤?◌, ◌<?◌}
 use Rattle.measure.specs.Units.{day}
-use Rattle.rows.proofs.Choice.{lt-or-ge, passes-or-fails}
-use Rattle.signed.specs.Signed.{Signed, aheadBy, behindBy}
+use Rattle.rows.proofs.Choice.{lt_or_ge, passes_or_fails}
+use Rattle.signed.specs.Signed.{Signed, ahead_by, behind_by}
 use Rattle.inequalities.specs.Law.{Law, law}
-use Rattle.inequalities.proofs.LawStep.{Steady, law-rises, law-falls}
-use Rattle.signed.proofs.Sizes.{gap, gap_is, gap-sym, gap-triangle, gap-behind}
+use Rattle.inequalities.proofs.LawStep.{Steady, law_rises, law_falls}
+use Rattle.signed.proofs.Sizes.{gap, gap_is, gap_sym, gap_triangle, gap_behind}
 
 -- f from lo to hi
 pub record Gentle (f : ℕ → Signed) (rate slack lo hi : ℕ) : Type 0 where
   pub step : (t e t' : ℕ) → t + e ≡ t' → lo ≤ t → t' ≤ hi → day * gap (f t) (f t') ≤ rate * e + day * slack
 
 -- a law, on its first n days
-pub law-gentle : (c : Law) (n : ℕ) → Steady c n → Gentle (λ (t : ℕ). aheadBy (law c t)) c.first 2 0 (n * day)
-law-gentle c n s = record { step = λ t e t' eq l k. rw (← eq) (either_way t e (omega arith)) }
+pub law_gentle : (c : Law) (n : ℕ) → Steady c n → Gentle (λ (t : ℕ). ahead_by (law c t)) c.first 2 0 (n * day)
+law_gentle c n s = record { step = λ t e t' eq l k. rw (← eq) (either_way t e (omega arith)) }
   where
     either_way : (t e : ℕ) → t + e ≤ n * day
-        → day * gap (aheadBy (law c t)) (aheadBy (law c (t + e))) ≤ c.first * e + day * 2
-    either_way t e h = rw gap_is (omega (arith, law-rises c t e, law-falls c n t e s h))
+        → day * gap (ahead_by (law c t)) (ahead_by (law c (t + e))) ≤ c.first * e + day * 2
+    either_way t e h = rw gap_is (omega (arith, law_rises c t e, law_falls c n t e s h))
 
 -- on a shorter stretch, and at a greater rate
 pub weaken : {f : ℕ → Signed} {rate slack lo hi : ℕ} (rate' hi' : ℕ)
@@ -62,13 +62,13 @@ module _ {A : Type 0} (sign : A → Signed) (f g : ℕ → A) (p joint : ℕ) {r
         arith,
         left.step t e₁ p a l (omega arith),
         right.step p e₂ t' b (omega arith) k,
-        gap-triangle (sign (f t)) (sign (f p)) (sign (g t')),
-        gap-triangle (sign (f p)) (sign (g p)) (sign (g t')),
+        gap_triangle (sign (f t)) (sign (f p)) (sign (g t')),
+        gap_triangle (sign (f p)) (sign (g p)) (sign (g t')),
       )
 
   pub glue : (test : ℕ → Bool) → Parts test p
       → Gentle (λ (t : ℕ). sign (if test t then f t else g t)) rate (slack + joint + slack') lo hi
-  glue test parts = record { step = λ t e t' eq l k. go t e t' eq l k (passes-or-fails (test t)) (passes-or-fails (test t')) }
+  glue test parts = record { step = λ t e t' eq l k. go t e t' eq l k (passes_or_fails (test t)) (passes_or_fails (test t')) }
     where
       go : (t e t' : ℕ) → t + e ≡ t' → lo ≤ t → t' ≤ hi
           → (test t ≡ true) ⊎ (test t ≡ false)
@@ -99,7 +99,7 @@ backwards {f} {rate} top until g =
           omega (
             arith,
             g.step (top - t') (top - t - (top - t')) (top - t) (omega arith) (omega arith) (omega arith),
-            gap-sym (f (top - t')) (f (top - t)),
+            gap_sym (f (top - t')) (f (top - t)),
             mul-le-mul_left {m = top - t - (top - t')} {n = e} rate (omega arith),
           );
     }
@@ -115,9 +115,9 @@ later start g =
 
 -- behind as much as it was ahead
 pub opposite : (f : ℕ → ℕ) {rate slack lo hi : ℕ}
-    → Gentle (λ (t : ℕ). aheadBy (f t)) rate slack lo hi
-    → Gentle (λ (t : ℕ). behindBy (f t)) rate slack lo hi
-opposite f g = record { step = λ t e t' eq l k. rw gap-behind (g.step t e t' eq l k) }
+    → Gentle (λ (t : ℕ). ahead_by (f t)) rate slack lo hi
+    → Gentle (λ (t : ℕ). behind_by (f t)) rate slack lo hi
+opposite f g = record { step = λ t e t' eq l k. rw gap_behind (g.step t e t' eq l k) }
 
 -- around a circle, where f ends as it begins
 module _ {f : ℕ → Signed} {rate slack : ℕ} (circle : ℕ) (g : Gentle f rate slack 0 circle) (closed : f circle ≡ f 0) where
@@ -127,11 +127,11 @@ module _ {f : ℕ → Signed} {rate slack : ℕ} (circle : ℕ) (g : Gentle f ra
         arith,
         g.step t d circle eq (omega arith) (omega arith),
         rw (← closed) at (g.step 0 t' t' (omega arith) (omega arith) h),
-        gap-triangle (f t) (f circle) (f t'),
+        gap_triangle (f t) (f circle) (f t'),
       )
 
   pub around : (t e : ℕ) → t < circle → e ≤ circle → day * gap (f t) (f ((t + e) % circle)) ≤ rate * e + day * (2 * slack)
-  around t e h k = go (lt-or-ge (t + e) circle)
+  around t e h k = go (lt_or_ge (t + e) circle)
     where
       go : (t + e < circle) ⊎ (circle ≤ t + e) → day * gap (f t) (f ((t + e) % circle)) ≤ rate * e + day * (2 * slack)
       go (inl short) =

@@ -5,77 +5,77 @@ use Prim.Native.Nat.{ℕ, ◌+◌, ◌*◌, ◌-◌, ◌%◌, ◌≤◌, ◌<◌
 use native.Mathlib.Omega.{arith}
 use lib.Dec.{lit≤}
 use Rattle.rows.specs.Choice.{◌≤?◌, ◌<?◌}
-use Rattle.measure.specs.Units.{day, anomalisticMonth, anomalisticHalf, anomalyAdvance}
-use Rattle.signed.specs.Signed.{Signed, aheadBy, behindBy}
-use Rattle.inequalities.specs.Law.{lawMoon, taken, law}
+use Rattle.measure.specs.Units.{day, anomalistic_month, anomalistic_half, anomaly_advance}
+use Rattle.signed.specs.Signed.{Signed, ahead_by, behind_by}
+use Rattle.inequalities.specs.Law.{law_moon, taken, law}
 use Rattle.inequalities.proofs.LawStep.{Steady}
 use Rattle.inequalities.specs.Limits.{middle, end, limits}
-use Rattle.inequalities.specs.Lunar.{lunarMagnitude, lunar}
+use Rattle.inequalities.specs.Lunar.{lunar_magnitude, lunar}
 use Rattle.signed.proofs.Sizes.{gap, gap_is}
-use Rattle.inequalities.proofs.Gentle.{Gentle, glue, up_to, before, backwards, later, opposite, law-gentle, around}
+use Rattle.inequalities.proofs.Gentle.{Gentle, glue, up_to, before, backwards, later, opposite, law_gentle, around}
 
 -- the law, whose rate is for a limit
-abbrev limitRate : ℕ
-limitRate = lawMoon.first
+abbrev limit_rate : ℕ
+limit_rate = law_moon.first
 
-steady-moon : Steady lawMoon middle
-steady-moon = record { under = lit≤ tt; gradual = lit≤ tt; lost = lit≤ tt }
+steady_moon : Steady law_moon middle
+steady_moon = record { under = lit≤ tt; gradual = lit≤ tt; lost = lit≤ tt }
 
-gentle-moon : Gentle (λ (n : ℕ). aheadBy (law lawMoon n)) limitRate 2 0 (middle * day)
-gentle-moon = law-gentle lawMoon middle steady-moon
+gentle_moon : Gentle (λ (n : ℕ). ahead_by (law law_moon n)) limit_rate 2 0 (middle * day)
+gentle_moon = law_gentle law_moon middle steady_moon
 
 -- a half, by its limits: the law forwards, then backwards, and 0 past the end
-middle-meets : gap (aheadBy (law lawMoon (middle * day))) (aheadBy (law lawMoon (end * day - middle * day))) ≤ 0
+middle_meets : gap (ahead_by (law law_moon (middle * day))) (ahead_by (law law_moon (end * day - middle * day))) ≤ 0
 unfolding law taken
-middle-meets = rw gap_is (lit≤ tt)
+middle_meets = rw gap_is (lit≤ tt)
 
-gentle-limits : Gentle (λ (n : ℕ). aheadBy (lunarMagnitude n)) limitRate (2 + 0 + 2) 0 (limits anomalisticHalf)
-unfolding lunarMagnitude
-gentle-limits =
-    glue aheadBy (law lawMoon) (λ (n : ℕ). law lawMoon (end * day - n)) (middle * day) 0 gentle-moon
-    (backwards (end * day) (limits anomalisticHalf) gentle-moon) middle-meets (λ (n : ℕ). n ≤? middle * day) (up_to (middle * day))
+gentle_limits : Gentle (λ (n : ℕ). ahead_by (lunar_magnitude n)) limit_rate (2 + 0 + 2) 0 (limits anomalistic_half)
+unfolding lunar_magnitude
+gentle_limits =
+    glue ahead_by (law law_moon) (λ (n : ℕ). law law_moon (end * day - n)) (middle * day) 0 gentle_moon
+    (backwards (end * day) (limits anomalistic_half) gentle_moon) middle_meets (λ (n : ℕ). n ≤? middle * day) (up_to (middle * day))
 
 -- by its time: the rate is for a day, and the part of a limit that `limits` drops is less than 1 in the law
-abbrev lunarRate : ℕ
-lunarRate = limits limitRate
+abbrev lunar_rate : ℕ
+lunar_rate = limits limit_rate
 
-abbrev halfSlack : ℕ
-halfSlack = 2 + 0 + 2 + 1
+abbrev half_slack : ℕ
+half_slack = 2 + 0 + 2 + 1
 
-gentle-half : Gentle (λ (a : ℕ). aheadBy (lunarMagnitude (limits a))) lunarRate halfSlack 0 anomalisticHalf
-gentle-half =
+gentle_half : Gentle (λ (a : ℕ). ahead_by (lunar_magnitude (limits a))) lunar_rate half_slack 0 anomalistic_half
+gentle_half =
     record {
       step = λ a e a' eq l h.
           omega (
             arith,
-            gentle-limits.step (limits a) (limits a' - limits a) (limits a') (omega arith) (omega arith) (omega arith),
+            gentle_limits.step (limits a) (limits a' - limits a) (limits a') (omega arith) (omega arith) (omega arith),
           );
     }
 
 -- the anomalistic month
-abbrev lunarSlack : ℕ
-lunarSlack = halfSlack + 0 + halfSlack
+abbrev lunar_slack : ℕ
+lunar_slack = half_slack + 0 + half_slack
 
-halves-meet : gap (aheadBy (lunarMagnitude (limits anomalisticHalf)))
-    (behindBy (lunarMagnitude (limits (anomalisticHalf - anomalisticHalf))))
+halves_meet : gap (ahead_by (lunar_magnitude (limits anomalistic_half)))
+    (behind_by (lunar_magnitude (limits (anomalistic_half - anomalistic_half))))
     ≤ 0
-unfolding lunarMagnitude law taken
-halves-meet = rw gap_is (lit≤ tt)
+unfolding lunar_magnitude law taken
+halves_meet = rw gap_is (lit≤ tt)
 
-gentle-lunar : Gentle lunar lunarRate lunarSlack 0 anomalisticMonth
+gentle_lunar : Gentle lunar lunar_rate lunar_slack 0 anomalistic_month
 unfolding lunar
-gentle-lunar =
-    glue (λ (x : Signed). x) (λ (a : ℕ). aheadBy (lunarMagnitude (limits a)))
-    (λ (a : ℕ). behindBy (lunarMagnitude (limits (a - anomalisticHalf)))) anomalisticHalf 0 gentle-half
-    (later anomalisticHalf (opposite (λ (a : ℕ). lunarMagnitude (limits a)) gentle-half)) halves-meet
-    (λ (a : ℕ). a <? anomalisticHalf) (before anomalisticHalf)
+gentle_lunar =
+    glue (λ (x : Signed). x) (λ (a : ℕ). ahead_by (lunar_magnitude (limits a)))
+    (λ (a : ℕ). behind_by (lunar_magnitude (limits (a - anomalistic_half)))) anomalistic_half 0 gentle_half
+    (later anomalistic_half (opposite (λ (a : ℕ). lunar_magnitude (limits a)) gentle_half)) halves_meet
+    (λ (a : ℕ). a <? anomalistic_half) (before anomalistic_half)
 
-closed : lunar anomalisticMonth ≡ lunar 0
-unfolding lunar lunarMagnitude law taken
+closed : lunar anomalistic_month ≡ lunar 0
+unfolding lunar lunar_magnitude law taken
 closed = refl
 
-abbrev pub lunarStepBound : ℕ
-lunarStepBound = 270_000_000
+abbrev pub lunar_step_bound : ℕ
+lunar_step_bound = 270_000_000
 
-pub lunar-step : (a : ℕ) → a < anomalisticMonth → gap (lunar a) (lunar ((a + anomalyAdvance) % anomalisticMonth)) ≤ lunarStepBound
-lunar-step a h = omega (arith, around anomalisticMonth gentle-lunar closed a anomalyAdvance h (omega arith))
+pub lunar_step : (a : ℕ) → a < anomalistic_month → gap (lunar a) (lunar ((a + anomaly_advance) % anomalistic_month)) ≤ lunar_step_bound
+lunar_step a h = omega (arith, around anomalistic_month gentle_lunar closed a anomaly_advance h (omega arith))

@@ -3,27 +3,27 @@
 use mathlib.Core.Path.{◌≡◌}
 use Prim.Native.Nat.{ℕ, ◌≤◌, ◌*◌, ◌-◌}
 use native.Mathlib.Omega.{arith}
-use Rattle.rows.proofs.Choice.{if-le, if-through}
-use Rattle.inequalities.specs.Limits.{fromNearerEnd, middle, end}
+use Rattle.rows.proofs.Choice.{if_le, if_through}
+use Rattle.inequalities.specs.Limits.{from_nearer_end, middle, end}
 use Rattle.rows.specs.Choice.{◌≤?◌}
 use Rattle.measure.specs.Units.{day}
-use Rattle.inequalities.specs.Law.{lawMoon, law, exact}
-use Rattle.inequalities.specs.Lunar.{lunarMagnitude}
+use Rattle.inequalities.specs.Law.{law_moon, law, exact}
+use Rattle.inequalities.specs.Lunar.{lunar_magnitude}
 use Rattle.inequalities.specs.Evaluation.{reach}
-use Rattle.inequalities.specs.Motion.{wholeLaw}
+use Rattle.inequalities.specs.Motion.{whole_law}
 
-pub nearer-le : (n m : ℕ) → fromNearerEnd n m ≤ m
-unfolding fromNearerEnd
-nearer-le n m = if-le (λ (v : ℕ). v ≤ m) _ _ n m (λ h. h) (λ h. omega arith)
+pub nearer_le : (n m : ℕ) → from_nearer_end n m ≤ m
+unfolding from_nearer_end
+nearer_le n m = if_le (λ (v : ℕ). v ≤ m) _ _ n m (λ h. h) (λ h. omega arith)
 
-pub magnitude-nearer : (n : ℕ) → law lawMoon (fromNearerEnd n (middle * day)) ≡ lunarMagnitude n
-unfolding fromNearerEnd lunarMagnitude
-magnitude-nearer n = if-through (law lawMoon) (n ≤? middle * day) n (end * day - n)
+pub magnitude_nearer : (n : ℕ) → law law_moon (from_nearer_end n (middle * day)) ≡ lunar_magnitude n
+unfolding from_nearer_end lunar_magnitude
+magnitude_nearer n = if_through (law law_moon) (n ≤? middle * day) n (end * day - n)
 
 -- a whole limit so counted is within a law's reach
-pub nearer-reach : (n : ℕ) {k : ℕ} → k ≡ fromNearerEnd n middle → k ≤ reach
-nearer-reach n e = omega (arith, nearer-le n middle)
+pub nearer_reach : (n : ℕ) {k : ℕ} → k ≡ from_nearer_end n middle → k ≤ reach
+nearer_reach n e = omega (arith, nearer_le n middle)
 
-pub whole-nearer : (k : ℕ) → exact lawMoon (fromNearerEnd k middle) ≡ wholeLaw k
-unfolding fromNearerEnd wholeLaw
-whole-nearer k = if-through (exact lawMoon) (k ≤? middle) k (end - k)
+pub whole_nearer : (k : ℕ) → exact law_moon (from_nearer_end k middle) ≡ whole_law k
+unfolding from_nearer_end whole_law
+whole_nearer k = if_through (exact law_moon) (k ≤? middle) k (end - k)

@@ -3,59 +3,59 @@
 use Prim.Native.Nat.{ℕ, ◌-◌, ◌≤◌, ◌*◌}
 use native.Mathlib.Omega.{arith}
 use lib.Dec.{lit≤}
-use Rattle.measure.specs.Units.{halfYear, day, anomalisticHalf}
-use Rattle.rows.proofs.Choice.{if-le, if-lt}
+use Rattle.measure.specs.Units.{half_year, day, anomalistic_half}
+use Rattle.rows.proofs.Choice.{if_le, if_lt}
 use Rattle.signed.proofs.Sizes.{Within}
-use Rattle.inequalities.specs.Law.{lawA, lawB, lawMoon}
-use Rattle.inequalities.proofs.LawStep.{law-le}
-use Rattle.inequalities.specs.Solar.{fastLimit, slowLimit, fastAt, slowAt, solar}
-use Rattle.inequalities.specs.Limits.{middle, end, limits, fromNearerEnd}
-use Rattle.inequalities.specs.Lunar.{lunarMagnitude, lunar}
-use Rattle.inequalities.proofs.Evaluation.{exact-le}
-use Rattle.inequalities.proofs.NearerEnd.{nearer-le, whole-nearer}
-use Rattle.inequalities.specs.Motion.{wholeLaw}
+use Rattle.inequalities.specs.Law.{law_a, law_b, law_moon}
+use Rattle.inequalities.proofs.LawStep.{law_le}
+use Rattle.inequalities.specs.Solar.{fast_limit, slow_limit, fast_at, slow_at, solar}
+use Rattle.inequalities.specs.Limits.{middle, end, limits, from_nearer_end}
+use Rattle.inequalities.specs.Lunar.{lunar_magnitude, lunar}
+use Rattle.inequalities.proofs.Evaluation.{exact_le}
+use Rattle.inequalities.proofs.NearerEnd.{nearer_le, whole_nearer}
+use Rattle.inequalities.specs.Motion.{whole_law}
 
-abbrev pub solarSize : ℕ
-solarSize = 457_000_000
+abbrev pub solar_size : ℕ
+solar_size = 457_000_000
 
-abbrev pub lunarSize : ℕ
-lunarSize = 934_000_000
+abbrev pub lunar_size : ℕ
+lunar_size = 934_000_000
 
-pub fast-le : (t : ℕ) → fastAt t ≤ solarSize
-unfolding fastAt
-fast-le t =
-    if-le (λ (v : ℕ). v ≤ solarSize) _ _ t fastLimit (λ h. omega (arith, law-le lawA t))
-    (λ h. omega (arith, law-le lawB (halfYear - t)))
+pub fast_le : (t : ℕ) → fast_at t ≤ solar_size
+unfolding fast_at
+fast_le t =
+    if_le (λ (v : ℕ). v ≤ solar_size) _ _ t fast_limit (λ h. omega (arith, law_le law_a t))
+    (λ h. omega (arith, law_le law_b (half_year - t)))
 
-pub slow-le : (t : ℕ) → slowAt t ≤ solarSize
-unfolding slowAt
-slow-le t =
-    if-le (λ (v : ℕ). v ≤ solarSize) _ _ t slowLimit (λ h. omega (arith, law-le lawB t))
-    (λ h. omega (arith, law-le lawA (halfYear - t)))
+pub slow_le : (t : ℕ) → slow_at t ≤ solar_size
+unfolding slow_at
+slow_le t =
+    if_le (λ (v : ℕ). v ≤ solar_size) _ _ t slow_limit (λ h. omega (arith, law_le law_b t))
+    (λ h. omega (arith, law_le law_a (half_year - t)))
 
 -- at any solar time
-pub solar-size : (s : ℕ) → Within solarSize (solar s)
+pub solar_size_lem : (s : ℕ) → Within solar_size (solar s)
 unfolding solar
-solar-size s =
-    if-lt (Within solarSize) _ _ s halfYear (λ h. omega (arith, slow-le s)) (λ h. omega (arith, fast-le (s - halfYear)))
+solar_size_lem s =
+    if_lt (Within solar_size) _ _ s half_year (λ h. omega (arith, slow_le s)) (λ h. omega (arith, fast_le (s - half_year)))
 
-pub magnitude-le : (n : ℕ) → lunarMagnitude n ≤ lunarSize
-unfolding lunarMagnitude
-magnitude-le n =
-    if-le (λ (v : ℕ). v ≤ lunarSize) _ _ n (middle * day) (λ h. omega (arith, law-le lawMoon n))
-    (λ h. omega (arith, law-le lawMoon (end * day - n)))
+pub magnitude_le : (n : ℕ) → lunar_magnitude n ≤ lunar_size
+unfolding lunar_magnitude
+magnitude_le n =
+    if_le (λ (v : ℕ). v ≤ lunar_size) _ _ n (middle * day) (λ h. omega (arith, law_le law_moon n))
+    (λ h. omega (arith, law_le law_moon (end * day - n)))
 
 -- at any anomaly
-pub lunar-size : (a : ℕ) → Within lunarSize (lunar a)
+pub lunar_size_lem : (a : ℕ) → Within lunar_size (lunar a)
 unfolding lunar
-lunar-size a =
-    if-lt (Within lunarSize) _ _ a anomalisticHalf (λ h. omega (arith, magnitude-le (limits a)))
-    (λ h. omega (arith, magnitude-le (limits (a - anomalisticHalf))))
+lunar_size_lem a =
+    if_lt (Within lunar_size) _ _ a anomalistic_half (λ h. omega (arith, magnitude_le (limits a)))
+    (λ h. omega (arith, magnitude_le (limits (a - anomalistic_half))))
 
-pub whole-law-le : (k : ℕ) → wholeLaw k ≤ 2 * lunarSize
-whole-law-le k =
+pub whole_law_le : (k : ℕ) → whole_law k ≤ 2 * lunar_size
+whole_law_le k =
     omega (
       arith,
-      whole-nearer k,
-      exact-le lawMoon (fromNearerEnd k middle) (lit≤ tt) (omega (arith, nearer-le k middle)),
+      whole_nearer k,
+      exact_le law_moon (from_nearer_end k middle) (lit≤ tt) (omega (arith, nearer_le k middle)),
     )

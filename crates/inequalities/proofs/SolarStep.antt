@@ -5,81 +5,81 @@ use Prim.Native.Nat.{ℕ, ◌+◌, ◌-◌, ◌%◌, ◌≤◌, ◌<◌}
 use native.Mathlib.Omega.{arith}
 use lib.Dec.{lit≤}
 use Rattle.rows.specs.Choice.{◌≤?◌, ◌<?◌}
-use Rattle.measure.specs.Units.{day, year, halfYear, month}
-use Rattle.signed.specs.Signed.{Signed, aheadBy, behindBy}
-use Rattle.inequalities.specs.Law.{lawA, lawB, taken, law}
+use Rattle.measure.specs.Units.{day, year, half_year, month}
+use Rattle.signed.specs.Signed.{Signed, ahead_by, behind_by}
+use Rattle.inequalities.specs.Law.{law_a, law_b, taken, law}
 use Rattle.inequalities.proofs.LawStep.{Steady}
-use Rattle.inequalities.specs.Solar.{fastLimit, slowLimit, fastAt, slowAt, solar}
+use Rattle.inequalities.specs.Solar.{fast_limit, slow_limit, fast_at, slow_at, solar}
 use Rattle.signed.proofs.Sizes.{gap, gap_is}
-use Rattle.inequalities.proofs.Gentle.{Gentle, weaken, glue, up_to, before, backwards, later, opposite, law-gentle, around}
+use Rattle.inequalities.proofs.Gentle.{Gentle, weaken, glue, up_to, before, backwards, later, opposite, law_gentle, around}
 
 -- the two laws, at the rate of the faster one
-abbrev solarRate : ℕ
-solarRate = lawA.first
+abbrev solar_rate : ℕ
+solar_rate = law_a.first
 
-steady-A : Steady lawA 89
-steady-A = record { under = lit≤ tt; gradual = lit≤ tt; lost = lit≤ tt }
+steady_a : Steady law_a 89
+steady_a = record { under = lit≤ tt; gradual = lit≤ tt; lost = lit≤ tt }
 
-steady-B : Steady lawB 94
-steady-B = record { under = lit≤ tt; gradual = lit≤ tt; lost = lit≤ tt }
+steady_b : Steady law_b 94
+steady_b = record { under = lit≤ tt; gradual = lit≤ tt; lost = lit≤ tt }
 
-gentle-A : Gentle (λ (t : ℕ). aheadBy (law lawA t)) solarRate 2 0 fastLimit
-gentle-A = weaken solarRate fastLimit (law-gentle lawA 89 steady-A) (lit≤ tt) (lit≤ tt)
+gentle_a : Gentle (λ (t : ℕ). ahead_by (law law_a t)) solar_rate 2 0 fast_limit
+gentle_a = weaken solar_rate fast_limit (law_gentle law_a 89 steady_a) (lit≤ tt) (lit≤ tt)
 
-gentle-B : Gentle (λ (t : ℕ). aheadBy (law lawB t)) solarRate 2 0 slowLimit
-gentle-B = weaken solarRate slowLimit (law-gentle lawB 94 steady-B) (lit≤ tt) (lit≤ tt)
+gentle_b : Gentle (λ (t : ℕ). ahead_by (law law_b t)) solar_rate 2 0 slow_limit
+gentle_b = weaken solar_rate slow_limit (law_gentle law_b 94 steady_b) (lit≤ tt) (lit≤ tt)
 
 -- the halves, in which the laws differ a little where they meet
-abbrev solarJoint : ℕ
-solarJoint = 9_735
+abbrev solar_joint : ℕ
+solar_joint = 9_735
 
-abbrev halfSlack : ℕ
-halfSlack = 2 + solarJoint + 2
+abbrev half_slack : ℕ
+half_slack = 2 + solar_joint + 2
 
-slow-meet : gap (aheadBy (law lawB slowLimit)) (aheadBy (law lawA (halfYear - slowLimit))) ≤ solarJoint
+slow_meet : gap (ahead_by (law law_b slow_limit)) (ahead_by (law law_a (half_year - slow_limit))) ≤ solar_joint
 unfolding law taken
-slow-meet = rw gap_is (lit≤ tt)
+slow_meet = rw gap_is (lit≤ tt)
 
-gentle-slow : Gentle (λ (t : ℕ). aheadBy (slowAt t)) solarRate halfSlack 0 halfYear
-unfolding slowAt
-gentle-slow =
-    glue aheadBy (law lawB) (λ (t : ℕ). law lawA (halfYear - t)) slowLimit solarJoint gentle-B
-    (backwards halfYear halfYear gentle-A) slow-meet (λ (t : ℕ). t ≤? slowLimit) (up_to slowLimit)
+gentle_slow : Gentle (λ (t : ℕ). ahead_by (slow_at t)) solar_rate half_slack 0 half_year
+unfolding slow_at
+gentle_slow =
+    glue ahead_by (law law_b) (λ (t : ℕ). law law_a (half_year - t)) slow_limit solar_joint gentle_b
+    (backwards half_year half_year gentle_a) slow_meet (λ (t : ℕ). t ≤? slow_limit) (up_to slow_limit)
 
-fast-meet : gap (aheadBy (law lawA fastLimit)) (aheadBy (law lawB (halfYear - fastLimit))) ≤ solarJoint
+fast_meet : gap (ahead_by (law law_a fast_limit)) (ahead_by (law law_b (half_year - fast_limit))) ≤ solar_joint
 unfolding law taken
-fast-meet = rw gap_is (lit≤ tt)
+fast_meet = rw gap_is (lit≤ tt)
 
-gentle-fast : Gentle (λ (t : ℕ). aheadBy (fastAt t)) solarRate halfSlack 0 halfYear
-unfolding fastAt
-gentle-fast =
-    glue aheadBy (law lawA) (λ (t : ℕ). law lawB (halfYear - t)) fastLimit solarJoint gentle-A
-    (backwards halfYear halfYear gentle-B) fast-meet (λ (t : ℕ). t ≤? fastLimit) (up_to fastLimit)
+gentle_fast : Gentle (λ (t : ℕ). ahead_by (fast_at t)) solar_rate half_slack 0 half_year
+unfolding fast_at
+gentle_fast =
+    glue ahead_by (law law_a) (λ (t : ℕ). law law_b (half_year - t)) fast_limit solar_joint gentle_a
+    (backwards half_year half_year gentle_b) fast_meet (λ (t : ℕ). t ≤? fast_limit) (up_to fast_limit)
 
 -- the year
-abbrev solarSlack : ℕ
-solarSlack = halfSlack + 0 + halfSlack
+abbrev solar_slack : ℕ
+solar_slack = half_slack + 0 + half_slack
 
-halves-meet : gap (behindBy (slowAt halfYear)) (aheadBy (fastAt (halfYear - halfYear))) ≤ 0
-unfolding slowAt fastAt law taken
-halves-meet = rw gap_is (lit≤ tt)
+halves_meet : gap (behind_by (slow_at half_year)) (ahead_by (fast_at (half_year - half_year))) ≤ 0
+unfolding slow_at fast_at law taken
+halves_meet = rw gap_is (lit≤ tt)
 
-gentle-solar : Gentle solar solarRate solarSlack 0 year
+gentle_solar : Gentle solar solar_rate solar_slack 0 year
 unfolding solar
-gentle-solar =
-    glue (λ (x : Signed). x) (λ (s : ℕ). behindBy (slowAt s)) (λ (s : ℕ). aheadBy (fastAt (s - halfYear))) halfYear 0
-    (opposite slowAt gentle-slow) (later halfYear gentle-fast) halves-meet (λ (s : ℕ). s <? halfYear) (before halfYear)
+gentle_solar =
+    glue (λ (x : Signed). x) (λ (s : ℕ). behind_by (slow_at s)) (λ (s : ℕ). ahead_by (fast_at (s - half_year))) half_year 0
+    (opposite slow_at gentle_slow) (later half_year gentle_fast) halves_meet (λ (s : ℕ). s <? half_year) (before half_year)
 
 closed : solar year ≡ solar 0
-unfolding solar slowAt fastAt law taken
+unfolding solar slow_at fast_at law taken
 closed = refl
 
 -- The solar time moves by a month. Where a rule of the year shifts it, this leaves room for a whole day
-abbrev pub mostSolarAdvance : ℕ
-mostSolarAdvance = month + day
+abbrev pub most_solar_advance : ℕ
+most_solar_advance = month + day
 
-abbrev pub solarStepBound : ℕ
-solarStepBound = 160_000_000
+abbrev pub solar_step_bound : ℕ
+solar_step_bound = 160_000_000
 
-pub solar-step : (s e : ℕ) → s < year → e ≤ mostSolarAdvance → gap (solar s) (solar ((s + e) % year)) ≤ solarStepBound
-solar-step s e h l = omega (arith, around year gentle-solar closed s e h (omega arith))
+pub solar_step : (s e : ℕ) → s < year → e ≤ most_solar_advance → gap (solar s) (solar ((s + e) % year)) ≤ solar_step_bound
+solar_step s e h l = omega (arith, around year gentle_solar closed s e h (omega arith))

@@ -6,8 +6,8 @@ use Rattle.inequalities.specs.Law.{Law, fine}
 use Rattle.inequalities.specs.declared.laws.Coefficients.{Coefficients}
 
 -- the law that coefficients stand for
-abbrev pub lawSaid : Coefficients → Law
-lawSaid c = record { first = c.first; second = c.second; third = c.third }
+abbrev pub law_said : Coefficients → Law
+law_said c = record { first = c.first; second = c.second; third = c.third }
 
 -- how many whole days or limits a law reaches: 93 days and 84 limits occur
 abbrev pub reach : ℕ

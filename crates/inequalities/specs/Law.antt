@@ -9,15 +9,15 @@ pub record Law : Type 0 where
   pub third : ℕ
 
 -- of the sun, 000:505-511 and 511-519; the second coefficients are misread there, and 004's tables bear these out
-abbrev pub lawA : Law
-lawA = record { first = 5_133_200; second = 24_600; third = 31 }
+abbrev pub law_a : Law
+law_a = record { first = 5_133_200; second = 24_600; third = 31 }
 
-abbrev pub lawB : Law
-lawB = record { first = 4_870_600; second = 22_100; third = 27 }
+abbrev pub law_b : Law
+law_b = record { first = 4_870_600; second = 22_100; third = 27 }
 
 -- of the moon, 000:947
-abbrev pub lawMoon : Law
-lawMoon = record { first = 11_110_000; second = 28_100; third = 325 }
+abbrev pub law_moon : Law
+law_moon = record { first = 11_110_000; second = 28_100; third = 325 }
 
 -- what the coefficients are multiplied by, and the result divided by
 abbrev pub fine : ℕ

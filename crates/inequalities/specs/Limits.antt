@@ -2,7 +2,7 @@
 -- Assumes nothing.
 use Rattle.std.specs.Prelude.{◌≡◌, refl, ℕ, ◌*◌, ◌-◌, ◌/◌, min}
 use Rattle.rows.specs.Choice.{if◌then◌else◌, ◌≤?◌}
-use Rattle.measure.specs.Units.{day, anomalisticHalf}
+use Rattle.measure.specs.Units.{day, anomalistic_half}
 use Rattle.inequalities.specs.declared.limits.LunarHalf.{LunarHalf as LunarHalfAsked}
 use Rattle.inequalities.specs.declared.limits.LunarHalf.TheVariants.{Quick, Tardy}
 
@@ -22,18 +22,18 @@ abbrev pub limits : ℕ → ℕ
 limits t = t * 122 / 10
 
 -- half a month is a little over 168 limits
-half-limits : limits anomalisticHalf ≡ 16_808_306_000
-half-limits = refl
+half_limits : limits anomalistic_half ≡ 16_808_306_000
+half_limits = refl
 
 -- the whole limit at a time in a half; 168 counts as 167
-abbrev pub wholeLimit : ℕ → ℕ
-wholeLimit t = min (end - 1) (limits t / day)
+abbrev pub whole_limit : ℕ → ℕ
+whole_limit t = min (end - 1) (limits t / day)
 
 -- what is past the middle counts from the end, and past the end there is nothing
-unfoldable pub fromNearerEnd : ℕ → ℕ → ℕ
-fromNearerEnd n m = if n ≤? m then n else 2 * m - n
+unfoldable pub from_nearer_end : ℕ → ℕ → ℕ
+from_nearer_end n m = if n ≤? m then n else 2 * m - n
 
 -- the half that each case stands for
-abbrev pub lunarHalfSaid : LunarHalfAsked → LunarHalf
-lunarHalfSaid Quick = quick
-lunarHalfSaid Tardy = tardy
+abbrev pub lunar_half_said : LunarHalfAsked → LunarHalf
+lunar_half_said Quick = quick
+lunar_half_said Tardy = tardy

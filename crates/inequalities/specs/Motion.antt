@@ -2,38 +2,38 @@
 -- Assumes nothing.
 use Rattle.std.specs.Prelude.{ℕ, ◌+◌, ◌-◌}
 use Rattle.rows.specs.Choice.{if◌then◌else◌, ◌≤?◌, ◌<?◌}
-use Rattle.rows.specs.Reply.{Reply, answer, outside, refuseIf}
-use Rattle.measure.specs.Units.{anomalisticHalf}
-use Rattle.inequalities.specs.Law.{lawMoon, exact}
-use Rattle.inequalities.specs.Limits.{LunarHalf, quick, tardy, middle, end, wholeLimit}
+use Rattle.rows.specs.Reply.{Reply, answer, outside, refuse_if}
+use Rattle.measure.specs.Units.{anomalistic_half}
+use Rattle.inequalities.specs.Law.{law_moon, exact}
+use Rattle.inequalities.specs.Limits.{LunarHalf, quick, tardy, middle, end, whole_limit}
 
 -- 13.36875 degrees a day (000:882) for the 0.0820 day of a limit
-abbrev pub meanMotion : ℕ
-meanMotion = 109_623_750
+abbrev pub mean_motion : ℕ
+mean_motion = 109_623_750
 
 -- E(k): the exact law at whole k up to the middle, and at 168 − k after
-unfoldable pub wholeLaw : ℕ → ℕ
-wholeLaw k = if k ≤? middle then exact lawMoon k else exact lawMoon (end - k)
+unfoldable pub whole_law : ℕ → ℕ
+whole_law k = if k ≤? middle then exact law_moon k else exact law_moon (end - k)
 
 -- the mean and E(k + 1) − E(k) when quick, less it when tardy
-unfoldable pub motionAt : LunarHalf → ℕ → ℕ
-motionAt quick k = meanMotion + wholeLaw (k + 1) - wholeLaw k
-motionAt tardy k = meanMotion + wholeLaw k - wholeLaw (k + 1)
+unfoldable pub motion_at : LunarHalf → ℕ → ℕ
+motion_at quick k = mean_motion + whole_law (k + 1) - whole_law k
+motion_at tardy k = mean_motion + whole_law k - whole_law (k + 1)
 
 -- the table of 336: 168 rows of the quick half, then those of the tardy half
 abbrev pub rows : ℕ
 rows = end + end
 
-unfoldable pub motionInRow : ℕ → ℕ
-motionInRow r = if r <? end then motionAt quick r else motionAt tardy (r - end)
+unfoldable pub motion_in_row : ℕ → ℕ
+motion_in_row r = if r <? end then motion_at quick r else motion_at tardy (r - end)
 
 -- the row of an anomaly, and the motion there
 unfoldable pub row_of : ℕ → ℕ
-row_of a = if a <? anomalisticHalf then wholeLimit a else end + wholeLimit (a - anomalisticHalf)
+row_of a = if a <? anomalistic_half then whole_limit a else end + whole_limit (a - anomalistic_half)
 
 unfoldable pub motion : ℕ → ℕ
-motion a = motionInRow (row_of a)
+motion a = motion_in_row (row_of a)
 
 -- the direct question: a half and a whole limit
-unfoldable pub motionAtReply : LunarHalf → ℕ → Reply ℕ
-motionAtReply h k = refuseIf (end ≤? k) outside (answer (motionAt h k))
+unfoldable pub motion_at_reply : LunarHalf → ℕ → Reply ℕ
+motion_at_reply h k = refuse_if (end ≤? k) outside (answer (motion_at h k))

@@ -1,7 +1,7 @@
 // The three laws, and how a law is evaluated.
 ghost use Rattle.std.specs.Prelude.{◌≡◌};
 ghost use Rattle.inequalities.specs.Law.{law};
-ghost use Rattle.inequalities.specs.Evaluation.{lawSaid, Evaluated};
+ghost use Rattle.inequalities.specs.Evaluation.{law_said, Evaluated};
 
 use measure::over_day;
 
@@ -36,8 +36,8 @@ const FINE: u64 = 10_000;
 
 // A law at a time, or at limits counted in as many parts. The rest is dropped at each quotient.
 pub(crate) fn law_at(c: Coefficients, t: u64) -> u64
-    requires { Evaluated (lawSaid c) t }
-    ensures { result ≡ law (lawSaid c) t }
+    requires { Evaluated (law_said c) t }
+    ensures { result ≡ law (law_said c) t }
 {
     let growth = over_day(c.third * FINE, t);
     let taken = over_day(c.second * FINE + growth, t);

@@ -1,7 +1,7 @@
 // Limits of the lunar inequality: 84 reach the middle of a half, and 168 its end.
 ghost use Rattle.std.specs.Prelude.{◌≡◌, ◌*◌, ◌≤◌};
-ghost use Rattle.measure.specs.Units.{day, anomalisticHalf};
-ghost use Rattle.inequalities.specs.Limits.{limits, wholeLimit, fromNearerEnd};
+ghost use Rattle.measure.specs.Units.{day, anomalistic_half};
+ghost use Rattle.inequalities.specs.Limits.{limits, whole_limit, from_nearer_end};
 
 use measure::DAY;
 
@@ -18,7 +18,7 @@ pub const END: u64 = 2 * MIDDLE;
 
 // The limits in a time, counted in as many parts as a day has.
 pub(crate) fn in_time(time: u64) -> u64
-    requires { time ≤ anomalisticHalf }
+    requires { time ≤ anomalistic_half }
     ensures { result ≡ limits time }
 {
     time * 122 / 10
@@ -26,8 +26,8 @@ pub(crate) fn in_time(time: u64) -> u64
 
 // The whole limit at a time in a half: the last one holds what is past the end.
 pub(crate) fn whole(time: u64) -> u64
-    requires { time ≤ anomalisticHalf }
-    ensures { result ≡ wholeLimit time }
+    requires { time ≤ anomalistic_half }
+    ensures { result ≡ whole_limit time }
 {
     let k = in_time(time) / DAY;
     if k < END { k } else { END - 1 }
@@ -36,7 +36,7 @@ pub(crate) fn whole(time: u64) -> u64
 // What is past the middle counts from the end, and past the end there is nothing.
 pub(crate) fn from_nearer_end(n: u64, middle: u64) -> u64
     requires { middle ≤ day * day }
-    ensures { result ≡ fromNearerEnd n middle }
+    ensures { result ≡ from_nearer_end n middle }
 {
     if n <= middle {
         n

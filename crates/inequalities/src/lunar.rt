@@ -1,9 +1,9 @@
 // The lunar inequality.
 ghost use Rattle.std.specs.Prelude.{◌≡◌, ◌≤◌, ◌<◌};
-ghost use Rattle.measure.specs.Units.{anomalisticMonth, anomalisticHalf};
-ghost use Rattle.signed.specs.Signed.{integer, asInteger, signedSaid};
-ghost use Rattle.inequalities.specs.Limits.{limits, lunarHalfSaid};
-ghost use Rattle.inequalities.specs.Lunar.{lunarMagnitude, lunar, lunarAtReply};
+ghost use Rattle.measure.specs.Units.{anomalistic_month, anomalistic_half};
+ghost use Rattle.signed.specs.Signed.{integer, as_integer, signed_said};
+ghost use Rattle.inequalities.specs.Limits.{limits, lunar_half_said};
+ghost use Rattle.inequalities.specs.Lunar.{lunar_magnitude, lunar, lunar_at_reply};
 
 use crate::laws::{LAW_MOON, law_at};
 use crate::limits::{LunarHalf, MIDDLE};
@@ -13,7 +13,7 @@ use signed::{SignedAnswer, ahead, behind};
 
 // The lunar inequality at a time in a half. Half the anomalistic month or more is refused with 2.
 pub fn lunar_at(half: LunarHalf, time: u64) -> SignedAnswer
-    ensures { signedSaid result ≡ asInteger (lunarAtReply (lunarHalfSaid half) time) }
+    ensures { signed_said result ≡ as_integer (lunar_at_reply (lunar_half_said half) time) }
 {
     if ANOMALISTIC_HALF <= time {
         return SignedAnswer::Refused(OUTSIDE);
@@ -26,7 +26,7 @@ pub fn lunar_at(half: LunarHalf, time: u64) -> SignedAnswer
 
 // The lunar inequality at an anomaly: the quick half comes first.
 pub fn lunar(anomaly: u64) -> i64
-    requires { anomaly < anomalisticMonth }
+    requires { anomaly < anomalistic_month }
     ensures { result ≡ integer (lunar anomaly) }
 {
     if anomaly < ANOMALISTIC_HALF {
@@ -38,8 +38,8 @@ pub fn lunar(anomaly: u64) -> i64
 
 // The magnitude of the lunar inequality at a time in either half.
 fn magnitude(time: u64) -> u64
-    requires { time ≤ anomalisticHalf }
-    ensures { result ≡ lunarMagnitude (limits time) }
+    requires { time ≤ anomalistic_half }
+    ensures { result ≡ lunar_magnitude (limits time) }
 {
     law_at(
         LAW_MOON,

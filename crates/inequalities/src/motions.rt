@@ -1,9 +1,9 @@
 // The moon's motion in a limit: by its rule, and as a table of 168 rows of the quick half and then 168 of the tardy half.
 ghost use Rattle.std.specs.Prelude.{◌≡◌, ◌<◌};
-ghost use Rattle.rows.specs.Reply.{answerSaid};
-ghost use Rattle.measure.specs.Units.{anomalisticMonth};
-ghost use Rattle.inequalities.specs.Limits.{lunarHalfSaid};
-ghost use Rattle.inequalities.specs.Motion.{wholeLaw, rows, motionInRow, motion, motionAtReply};
+ghost use Rattle.rows.specs.Reply.{answer_said};
+ghost use Rattle.measure.specs.Units.{anomalistic_month};
+ghost use Rattle.inequalities.specs.Limits.{lunar_half_said};
+ghost use Rattle.inequalities.specs.Motion.{whole_law, rows, motion_in_row, motion, motion_at_reply};
 
 use crate::laws::LAW_MOON;
 use crate::limits::{END, LunarHalf, MIDDLE};
@@ -12,7 +12,7 @@ use rows::{Answer, OUTSIDE};
 
 // The motion in a whole limit of a half. A limit past the last is refused with 2.
 pub fn motion_at(half: LunarHalf, limit: u64) -> Answer
-    ensures { answerSaid result ≡ motionAtReply (lunarHalfSaid half) limit }
+    ensures { answer_said result ≡ motion_at_reply (lunar_half_said half) limit }
 {
     if END <= limit {
         return Answer::Refused(OUTSIDE);
@@ -25,7 +25,7 @@ pub fn motion_at(half: LunarHalf, limit: u64) -> Answer
 
 // The motion at an anomaly, by its rule: a constant table is laid out anew wherever it is read.
 pub fn motion(anomaly: u64) -> u64
-    requires { anomaly < anomalisticMonth }
+    requires { anomaly < anomalistic_month }
     ensures { result ≡ motion anomaly }
 {
     if anomaly < ANOMALISTIC_HALF {
@@ -41,7 +41,7 @@ const MEAN: u64 = 109_623_750;
 
 // The exact law at a whole limit.
 fn whole_law(limit: u64) -> u64
-    ensures { result ≡ wholeLaw limit }
+    ensures { result ≡ whole_law limit }
 {
     let k = crate::limits::from_nearer_end(limit, MIDDLE);
     k * (LAW_MOON.first - k * (LAW_MOON.second + k * LAW_MOON.third))
@@ -50,7 +50,7 @@ fn whole_law(limit: u64) -> u64
 // The motion in a row of the table.
 fn in_row(row: u64) -> u64
     requires { row < rows }
-    ensures { result ≡ motionInRow row }
+    ensures { result ≡ motion_in_row row }
 {
     MOTIONS[row as usize]
 }

@@ -1,8 +1,8 @@
 // The solar inequality.
 ghost use Rattle.std.specs.Prelude.{◌≡◌, ◌≤◌, ◌<◌};
-ghost use Rattle.measure.specs.Units.{year, halfYear};
-ghost use Rattle.signed.specs.Signed.{integer, asInteger, signedSaid};
-ghost use Rattle.inequalities.specs.Solar.{fastAt, slowAt, solar, solarAtReply, solarHalfSaid};
+ghost use Rattle.measure.specs.Units.{year, half_year};
+ghost use Rattle.signed.specs.Signed.{integer, as_integer, signed_said};
+ghost use Rattle.inequalities.specs.Solar.{fast_at, slow_at, solar, solar_at_reply, solar_half_said};
 
 use crate::laws::{LAW_A, LAW_B, law_at};
 use measure::HALF_YEAR;
@@ -18,7 +18,7 @@ pub enum SolarHalf {
 
 // The solar inequality at a time in a half. The half year or more is refused with 2.
 pub fn solar_at(half: SolarHalf, time: u64) -> SignedAnswer
-    ensures { signedSaid result ≡ asInteger (solarAtReply (solarHalfSaid half) time) }
+    ensures { signed_said result ≡ as_integer (solar_at_reply (solar_half_said half) time) }
 {
     if HALF_YEAR <= time {
         return SignedAnswer::Refused(OUTSIDE);
@@ -47,8 +47,8 @@ const SLOW_LIMIT: u64 = HALF_YEAR - FAST_LIMIT;
 
 // The magnitude at a time in the fast half: by law A as far as the limit, then by law B from the end.
 fn fast(time: u64) -> u64
-    requires { time ≤ halfYear }
-    ensures { result ≡ fastAt time }
+    requires { time ≤ half_year }
+    ensures { result ≡ fast_at time }
 {
     if time <= FAST_LIMIT {
         law_at(LAW_A, time)
@@ -59,8 +59,8 @@ fn fast(time: u64) -> u64
 
 // And in the slow half.
 fn slow(time: u64) -> u64
-    requires { time ≤ halfYear }
-    ensures { result ≡ slowAt time }
+    requires { time ≤ half_year }
+    ensures { result ≡ slow_at time }
 {
     if time <= SLOW_LIMIT {
         law_at(LAW_B, time)

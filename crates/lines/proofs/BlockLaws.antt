@@ -10,118 +10,118 @@ use native.Mathlib.Omega.{arith}
 use lib.ListN.{length, get_or, take, drop}
 use lib.Seq.{take_all, take-suc, split_at, length-take-le}
 use Rattle.rows.specs.Choice.{if◌then◌else◌, ◌=?◌}
-use Rattle.rows.specs.Reply.{refused, badLine}
+use Rattle.rows.specs.Reply.{refused, bad_line}
 use Rattle.measure.specs.Epoch.{Epoch}
-use Rattle.rows.proofs.Choice.{lt-or-ge}
-use Rattle.frames.specs.LineEnds.{lineEnd, lineLength}
-use Rattle.frames.specs.DayLine.{dayDigits}
+use Rattle.rows.proofs.Choice.{lt_or_ge}
+use Rattle.frames.specs.LineEnds.{line_end, line_length}
+use Rattle.frames.specs.DayLine.{day_digits}
 use Rattle.frames.specs.MonthLine.{line_of}
 use Rattle.frames.proofs.DayLineLaws.{other_length}
-use Rattle.lines.specs.Line.{lineReply, replyLine, lastLine, outputFrom, output}
-use Rattle.lines.proofs.LineLaws.{bad-line}
+use Rattle.lines.specs.Line.{line_reply, reply_line, last_line, output_from, output}
+use Rattle.lines.proofs.LineLaws.{bad_line_lem}
 use Rattle.lines.specs.Block.{enough, Unfinished}
 
-long : (e : Epoch) (line : List ℕ) → dayDigits < length line → lineReply e line ≡ refused badLine
-long e line h = bad-line e line badLine (other_length dayDigits line (λ k. omega arith))
+long : (e : Epoch) (line : List ℕ) → day_digits < length line → line_reply e line ≡ refused bad_line
+long e line h = bad_line_lem e line bad_line (other_length day_digits line (λ k. omega arith))
 
-take-of-take : (n : ℕ) (a b : List ℕ) → take n (take n a ++ b) ≡ take n (a ++ b)
-take-of-take zero a b = refl
-take-of-take (suc n) [] b = refl
-take-of-take (suc n) (x ∷ a) b = ap (λ (l : List ℕ). x ∷ l) (take-of-take n a b)
+take_of_take : (n : ℕ) (a b : List ℕ) → take n (take n a ++ b) ≡ take n (a ++ b)
+take_of_take zero a b = refl
+take_of_take (suc n) [] b = refl
+take_of_take (suc n) (x ∷ a) b = ap (λ (l : List ℕ). x ∷ l) (take_of_take n a b)
 
-pub goes_on : (b : ℕ) (bs : List ℕ) → Unfinished (b ∷ bs) → ((b =? lineEnd) ≡ false) × Unfinished bs
-unfolding lineLength
-goes_on b bs h = by (b =? lineEnd) h
+pub goes_on : (b : ℕ) (bs : List ℕ) → Unfinished (b ∷ bs) → ((b =? line_end) ≡ false) × Unfinished bs
+unfolding line_length
+goes_on b bs h = by (b =? line_end) h
   where
-    by : (t : Bool) → (if t then 0 else suc (lineLength bs)) ≡ suc (length bs) → (t ≡ false) × Unfinished bs
+    by : (t : Bool) → (if t then 0 else suc (line_length bs)) ≡ suc (length bs) → (t ≡ false) × Unfinished bs
     by true f = absurd (omega arith)
     by false f = (refl, omega arith)
 
 -- nor in the first of them
-pub unfinished-take : (n : ℕ) (begun : List ℕ) → Unfinished begun → Unfinished (take n begun)
-unfolding lineLength
-unfinished-take zero begun h = refl
-unfinished-take (suc n) [] h = refl
-unfinished-take (suc n) (b ∷ bs) h = rw (goes_on b bs h).0 (ap suc (unfinished-take n bs (goes_on b bs h).1))
+pub unfinished_take : (n : ℕ) (begun : List ℕ) → Unfinished begun → Unfinished (take n begun)
+unfolding line_length
+unfinished_take zero begun h = refl
+unfinished_take (suc n) [] h = refl
+unfinished_take (suc n) (b ∷ bs) h = rw (goes_on b bs h).0 (ap suc (unfinished_take n bs (goes_on b bs h).1))
 
 module _ (e : Epoch) where
-  reply-six : (line : List ℕ) → lineReply e line ≡ lineReply e (take enough line)
-  reply-six line =
+  reply_six : (line : List ℕ) → line_reply e line ≡ line_reply e (take enough line)
+  reply_six line =
       ⊎_elim
-      (λ (few : length line < 7). ap (lineReply e) (sym (take_all enough line (omega arith))))
+      (λ (few : length line < 7). ap (line_reply e) (sym (take_all enough line (omega arith))))
       (λ (many : 7 ≤ length line).
       long e line (omega arith)
       ∙ sym (long e (take enough line) (omega (arith, length-take-le enough line (omega arith)))))
-      (lt-or-ge (length line) 7)
+      (lt_or_ge (length line) 7)
 
-  line-six : (line : List ℕ) → replyLine e line ≡ replyLine e (take enough line)
-  unfolding replyLine
-  line-six line = ap (line_of dayDigits) (reply-six line)
+  line_six : (line : List ℕ) → reply_line e line ≡ reply_line e (take enough line)
+  unfolding reply_line
+  line_six line = ap (line_of day_digits) (reply_six line)
 
-  last-six : (begun : List ℕ) → lastLine e begun ≡ lastLine e (take enough begun)
-  unfolding lastLine
-  last-six [] = refl
-  last-six (b ∷ bs) = line-six (b ∷ bs)
+  last_six : (begun : List ℕ) → last_line e begun ≡ last_line e (take enough begun)
+  unfolding last_line
+  last_six [] = refl
+  last_six (b ∷ bs) = line_six (b ∷ bs)
 
-  from-six : (begun later : List ℕ) → outputFrom e begun later ≡ outputFrom e (take enough begun) later
-  unfolding outputFrom
-  from-six begun [] = last-six begun
-  from-six begun (b ∷ bs) =
-      by (b =? lineEnd)
-      (from-six (begun ++ (b ∷ [])) bs
-      ∙ ap (λ (l : List ℕ). outputFrom e l bs) (sym (take-of-take enough begun (b ∷ [])))
-      ∙ sym (from-six (take enough begun ++ (b ∷ [])) bs))
+  from_six : (begun later : List ℕ) → output_from e begun later ≡ output_from e (take enough begun) later
+  unfolding output_from
+  from_six begun [] = last_six begun
+  from_six begun (b ∷ bs) =
+      by (b =? line_end)
+      (from_six (begun ++ (b ∷ [])) bs
+      ∙ ap (λ (l : List ℕ). output_from e l bs) (sym (take_of_take enough begun (b ∷ [])))
+      ∙ sym (from_six (take enough begun ++ (b ∷ [])) bs))
     where
-      by : (t : Bool) → outputFrom e (begun ++ (b ∷ [])) bs ≡ outputFrom e (take enough begun ++ (b ∷ [])) bs
-          → (if t then replyLine e begun ++ outputFrom e [] bs else outputFrom e (begun ++ (b ∷ [])) bs)
-          ≡ (if t then replyLine e (take enough begun) ++ outputFrom e [] bs else outputFrom e (take enough begun ++ (b ∷ [])) bs)
-      by true h = ap (λ (l : List ℕ). l ++ outputFrom e [] bs) (line-six begun)
+      by : (t : Bool) → output_from e (begun ++ (b ∷ [])) bs ≡ output_from e (take enough begun ++ (b ∷ [])) bs
+          → (if t then reply_line e begun ++ output_from e [] bs else output_from e (begun ++ (b ∷ [])) bs)
+          ≡ (if t then reply_line e (take enough begun) ++ output_from e [] bs else output_from e (take enough begun ++ (b ∷ [])) bs)
+      by true h = ap (λ (l : List ℕ). l ++ output_from e [] bs) (line_six begun)
       by false h = h
 
-  from-begun : (before begun later : List ℕ) → Unfinished begun → outputFrom e before (begun ++ later) ≡ outputFrom e (before ++ begun) later
-  unfolding outputFrom
-  from-begun before [] later h = rw append-nil
-  from-begun before (b ∷ bs) later h =
+  from_begun : (before begun later : List ℕ) → Unfinished begun → output_from e before (begun ++ later) ≡ output_from e (before ++ begun) later
+  unfolding output_from
+  from_begun before [] later h = rw append-nil
+  from_begun before (b ∷ bs) later h =
       rw (goes_on b bs h).0
-      (from-begun (before ++ (b ∷ [])) bs later (goes_on b bs h).1
-      ∙ ap (λ (l : List ℕ). outputFrom e l later) (append_assoc before (b ∷ []) bs))
+      (from_begun (before ++ (b ∷ [])) bs later (goes_on b bs h).1
+      ∙ ap (λ (l : List ℕ). output_from e l later) (append_assoc before (b ∷ []) bs))
 
   -- six bytes of an unfinished line are as good as all
-  pub six-bytes : (begun later : List ℕ) → Unfinished begun → output e (begun ++ later) ≡ output e (take enough begun ++ later)
+  pub six_bytes : (begun later : List ℕ) → Unfinished begun → output e (begun ++ later) ≡ output e (take enough begun ++ later)
   unfolding output
-  six-bytes begun later h =
-      from-begun [] begun later h ∙ from-six begun later ∙ sym (from-begun [] (take enough begun) later (unfinished-take enough begun h))
+  six_bytes begun later h =
+      from_begun [] begun later h ∙ from_six begun later ∙ sym (from_begun [] (take enough begun) later (unfinished_take enough begun h))
 
-  from-whole : (before lines later : List ℕ)
-      → outputFrom e before (lines ++ (lineEnd ∷ later)) ≡ outputFrom e before (lines ++ (lineEnd ∷ [])) ++ outputFrom e [] later
-  unfolding outputFrom lastLine
-  from-whole before [] later = rw append-nil
-  from-whole before (b ∷ bs) later = by (b =? lineEnd) (from-whole [] bs later) (from-whole (before ++ (b ∷ [])) bs later)
+  from_whole : (before lines later : List ℕ)
+      → output_from e before (lines ++ (line_end ∷ later)) ≡ output_from e before (lines ++ (line_end ∷ [])) ++ output_from e [] later
+  unfolding output_from last_line
+  from_whole before [] later = rw append-nil
+  from_whole before (b ∷ bs) later = by (b =? line_end) (from_whole [] bs later) (from_whole (before ++ (b ∷ [])) bs later)
     where
       by : (t : Bool)
-          → outputFrom e [] (bs ++ (lineEnd ∷ later)) ≡ outputFrom e [] (bs ++ (lineEnd ∷ [])) ++ outputFrom e [] later
-          → outputFrom e (before ++ (b ∷ [])) (bs ++ (lineEnd ∷ later))
-          ≡ outputFrom e (before ++ (b ∷ [])) (bs ++ (lineEnd ∷ [])) ++ outputFrom e [] later
-          → (if t then replyLine e before ++ outputFrom e [] (bs ++ (lineEnd ∷ later))
-          else outputFrom e (before ++ (b ∷ [])) (bs ++ (lineEnd ∷ later)))
-          ≡ (if t then replyLine e before ++ outputFrom e [] (bs ++ (lineEnd ∷ []))
-          else outputFrom e (before ++ (b ∷ [])) (bs ++ (lineEnd ∷ []))) ++ outputFrom e [] later
-      by true h g = ap (λ (l : List ℕ). replyLine e before ++ l) h ∙ sym (append_assoc (replyLine e before) _ _)
+          → output_from e [] (bs ++ (line_end ∷ later)) ≡ output_from e [] (bs ++ (line_end ∷ [])) ++ output_from e [] later
+          → output_from e (before ++ (b ∷ [])) (bs ++ (line_end ∷ later))
+          ≡ output_from e (before ++ (b ∷ [])) (bs ++ (line_end ∷ [])) ++ output_from e [] later
+          → (if t then reply_line e before ++ output_from e [] (bs ++ (line_end ∷ later))
+          else output_from e (before ++ (b ∷ [])) (bs ++ (line_end ∷ later)))
+          ≡ (if t then reply_line e before ++ output_from e [] (bs ++ (line_end ∷ []))
+          else output_from e (before ++ (b ∷ [])) (bs ++ (line_end ∷ []))) ++ output_from e [] later
+      by true h g = ap (λ (l : List ℕ). reply_line e before ++ l) h ∙ sym (append_assoc (reply_line e before) _ _)
       by false h g = g
 
   -- whole lines are answered by themselves
-  pub whole-lines : (block later : List ℕ) (n : ℕ) → n ≤ length block → (0 < n → get_or block (n - 1) 0 ≡ lineEnd)
+  pub whole_lines_lem : (block later : List ℕ) (n : ℕ) → n ≤ length block → (0 < n → get_or block (n - 1) 0 ≡ line_end)
       → output e (block ++ later) ≡ output e (take n block) ++ output e (drop n block ++ later)
-  unfolding output outputFrom lastLine
-  whole-lines block later zero fits end = refl
-  whole-lines block later (suc n) fits end =
+  unfolding output output_from last_line
+  whole_lines_lem block later zero fits end = refl
+  whole_lines_lem block later (suc n) fits end =
       let front = take n block in
       let back = drop (suc n) block in
       let same : suc n - 1 ≡ n = omega arith in
-      let last : get_or block n 0 ≡ lineEnd = ap (λ (k : ℕ). get_or block k 0) (sym same) ∙ end (omega arith) in
-      let lines : take (suc n) block ≡ front ++ (lineEnd ∷ []) = take-suc block n 0 fits ∙ ap (λ (b : ℕ). front ++ (b ∷ [])) last in
-      let all : block ≡ front ++ (lineEnd ∷ back) = split_at block n 0 fits ∙ ap (λ (b : ℕ). front ++ (b ∷ back)) last in
-      ap (λ (l : List ℕ). outputFrom e [] (l ++ later)) all
-      ∙ ap (outputFrom e []) (append_assoc front (lineEnd ∷ back) later)
-      ∙ from-whole [] front (back ++ later)
-      ∙ ap (λ (l : List ℕ). outputFrom e [] l ++ outputFrom e [] (back ++ later)) (sym lines)
+      let last : get_or block n 0 ≡ line_end = ap (λ (k : ℕ). get_or block k 0) (sym same) ∙ end (omega arith) in
+      let lines : take (suc n) block ≡ front ++ (line_end ∷ []) = take-suc block n 0 fits ∙ ap (λ (b : ℕ). front ++ (b ∷ [])) last in
+      let all : block ≡ front ++ (line_end ∷ back) = split_at block n 0 fits ∙ ap (λ (b : ℕ). front ++ (b ∷ back)) last in
+      ap (λ (l : List ℕ). output_from e [] (l ++ later)) all
+      ∙ ap (output_from e []) (append_assoc front (line_end ∷ back) later)
+      ∙ from_whole [] front (back ++ later)
+      ∙ ap (λ (l : List ℕ). output_from e [] l ++ output_from e [] (back ++ later)) (sym lines)

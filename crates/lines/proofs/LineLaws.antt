@@ -12,142 +12,142 @@ use borrow.Rule.Slice.PartMut.{put_mid}
 use lib.ListN.{length, take, drop, replicate, length-append}
 use lib.Seq.{length-take-le}
 use Rattle.rows.specs.Choice.{if◌then◌else◌, ◌=?◌}
-use Rattle.rows.specs.Reply.{Reply, answer, refused, noDay, badLine}
+use Rattle.rows.specs.Reply.{Reply, answer, refused, no_day, bad_line}
 use Rattle.rows.specs.Row.{over}
 use Rattle.measure.specs.Epoch.{Epoch, shoushi}
-use Rattle.rows.proofs.Choice.{passes-or-fails}
-use Rattle.rows.proofs.Row.{more-written}
-use Rattle.months.specs.Month.{MonthOfDay, dayReply}
-use Rattle.months.proofs.DayReply.{day-cases}
-use Rattle.frames.specs.LineEnds.{lineEnd, lineLength, restAfter}
-use Rattle.frames.specs.DayLine.{dayDigits, dayAsked}
-use Rattle.frames.specs.MonthLine.{shown, monthLine, readFields, line_of}
-use Rattle.frames.proofs.LineEndLaws.{length_most, rest-length}
-use Rattle.frames.proofs.DayLineLaws.{other_length, only-bad}
-use Rattle.frames.proofs.MonthLineLaws.{month-line-length, refusal-line-length, written_read}
-use Rattle.frames.proofs.FitLaws.{LineFits, reply-fits}
-use Rattle.lines.specs.Line.{lineReply, replyLine, lastLine, outputFrom, output, replyRoom, outputReply}
+use Rattle.rows.proofs.Choice.{passes_or_fails}
+use Rattle.rows.proofs.Row.{more_written}
+use Rattle.months.specs.Month.{MonthOfDay, day_reply}
+use Rattle.months.proofs.DayReply.{day_cases}
+use Rattle.frames.specs.LineEnds.{line_end, line_length, rest_after}
+use Rattle.frames.specs.DayLine.{day_digits, day_asked}
+use Rattle.frames.specs.MonthLine.{shown, month_line, read_fields, line_of}
+use Rattle.frames.proofs.LineEndLaws.{length_most, rest_length}
+use Rattle.frames.proofs.DayLineLaws.{other_length, only_bad}
+use Rattle.frames.proofs.MonthLineLaws.{month_line_length, refusal_line_length, written_read}
+use Rattle.frames.proofs.FitLaws.{LineFits, reply_fits}
+use Rattle.lines.specs.Line.{line_reply, reply_line, last_line, output_from, output, reply_room, output_reply}
 
 -- what is refused: a line that asks for no day
-pub bad-line : (e : Epoch) (line : List ℕ) (k : ℕ) → dayAsked dayDigits line ≡ refused k → lineReply e line ≡ refused badLine
-unfolding lineReply
-bad-line e line k h = rw h (ap refused (only-bad dayDigits line k h))
+pub bad_line_lem : (e : Epoch) (line : List ℕ) (k : ℕ) → day_asked day_digits line ≡ refused k → line_reply e line ≡ refused bad_line
+unfolding line_reply
+bad_line_lem e line k h = rw h (ap refused (only_bad day_digits line k h))
 
 -- and a day outside the calendar
-pub asked-reply : (e : Epoch) (line : List ℕ) (d : ℕ) → dayAsked dayDigits line ≡ answer d → lineReply e line ≡ dayReply e d
-unfolding lineReply
-asked-reply e line d h = rw h
+pub asked_reply : (e : Epoch) (line : List ℕ) (d : ℕ) → day_asked day_digits line ≡ answer d → line_reply e line ≡ day_reply e d
+unfolding line_reply
+asked_reply e line d h = rw h
 
-pub outside-day : (e : Epoch) (line : List ℕ) (d k : ℕ) → dayAsked dayDigits line ≡ answer d → dayReply e d ≡ refused k
-    → lineReply e line ≡ refused noDay
-outside-day e line d k h g =
-    asked-reply e line d h ∙ g
-    ∙ ap refused (day-cases e d (λ (r : Reply MonthOfDay). r ≡ refused k → k ≡ noDay) (λ _ _ f. cc) (λ f. cc) g)
+pub outside_day : (e : Epoch) (line : List ℕ) (d k : ℕ) → day_asked day_digits line ≡ answer d → day_reply e d ≡ refused k
+    → line_reply e line ≡ refused no_day
+outside_day e line d k h g =
+    asked_reply e line d h ∙ g
+    ∙ ap refused (day_cases e d (λ (r : Reply MonthOfDay). r ≡ refused k → k ≡ no_day) (λ _ _ f. cc) (λ f. cc) g)
 
 -- every reply has room in its line: no place of it is lost
-pub line-fits : (line : List ℕ) → LineFits dayDigits (lineReply shoushi line)
-unfolding lineReply
-line-fits line = fits (dayAsked dayDigits line) refl
+pub line_fits : (line : List ℕ) → LineFits day_digits (line_reply shoushi line)
+unfolding line_reply
+line_fits line = fits (day_asked day_digits line) refl
   where
-    fits : (r : Reply ℕ) → dayAsked dayDigits line ≡ r → LineFits dayDigits (lineReply shoushi line)
-    fits (answer d) h = subst⁻¹ (LineFits dayDigits) (asked-reply shoushi line d h) (reply-fits d)
-    fits (refused k) h = subst⁻¹ (LineFits dayDigits) (bad-line shoushi line k h) (omega arith)
+    fits : (r : Reply ℕ) → day_asked day_digits line ≡ r → LineFits day_digits (line_reply shoushi line)
+    fits (answer d) h = subst⁻¹ (LineFits day_digits) (asked_reply shoushi line d h) (reply_fits d)
+    fits (refused k) h = subst⁻¹ (LineFits day_digits) (bad_line_lem shoushi line k h) (omega arith)
 
 -- what is written for a line whose reply is known
-pub written_as : (e : Epoch) (line : List ℕ) (r : Reply MonthOfDay) → lineReply e line ≡ r → replyLine e line ≡ line_of dayDigits r
-unfolding replyLine
-written_as e line r h = ap (line_of dayDigits) h
+pub written_as : (e : Epoch) (line : List ℕ) (r : Reply MonthOfDay) → line_reply e line ≡ r → reply_line e line ≡ line_of day_digits r
+unfolding reply_line
+written_as e line r h = ap (line_of day_digits) h
 
 -- what is written for a month reads back to its fields
-pub reply-back : (line : List ℕ) (m : MonthOfDay) → lineReply shoushi line ≡ answer m
-    → (replyLine shoushi line ≡ monthLine dayDigits (shown m) ++ (lineEnd ∷ []))
-    × (readFields dayDigits (monthLine dayDigits (shown m)) ≡ answer (shown m))
+pub reply_back : (line : List ℕ) (m : MonthOfDay) → line_reply shoushi line ≡ answer m
+    → (reply_line shoushi line ≡ month_line day_digits (shown m) ++ (line_end ∷ []))
+    × (read_fields day_digits (month_line day_digits (shown m)) ≡ answer (shown m))
 unfolding line_of
-reply-back line m h =
-    (written_as shoushi line (answer m) h, written_read dayDigits (shown m) (subst (LineFits dayDigits) h (line-fits line)))
+reply_back line m h =
+    (written_as shoushi line (answer m) h, written_read day_digits (shown m) (subst (LineFits day_digits) h (line_fits line)))
 
-bad-length : (e : Epoch) (line : List ℕ) → lineReply e line ≡ refused badLine → length (replyLine e line) ≡ 3
-bad-length e line h = ap length (written_as e line (refused badLine) h) ∙ refusal-line-length dayDigits badLine
+bad_length : (e : Epoch) (line : List ℕ) → line_reply e line ≡ refused bad_line → length (reply_line e line) ≡ 3
+bad_length e line h = ap length (written_as e line (refused bad_line) h) ∙ refusal_line_length day_digits bad_line
 
 -- a reply has room in three bytes for each byte of its line, and of its line end where the line is empty
-pub reply-room : (e : Epoch) (line : List ℕ) (n : ℕ) → length line ≤ n → 0 < n → length (replyLine e line) ≤ replyRoom * n
-unfolding replyLine
-reply-room e line n h some =
+pub reply_room_lem : (e : Epoch) (line : List ℕ) (n : ℕ) → length line ≤ n → 0 < n → length (reply_line e line) ≤ reply_room * n
+unfolding reply_line
+reply_room_lem e line n h some =
     ⊎_elim
-    (λ t. omega (arith, eqb-true (length line) dayDigits t, most (lineReply e line)))
+    (λ t. omega (arith, eqb-true (length line) day_digits t, most (line_reply e line)))
     (λ t.
-    let other : ¬ (length line ≡ dayDigits) = eqb-false (length line) dayDigits t in
-    omega (arith, bad-length e line (bad-line e line badLine (other_length dayDigits line other))))
-    (passes-or-fails (length line =? dayDigits))
+    let other : ¬ (length line ≡ day_digits) = eqb-false (length line) day_digits t in
+    omega (arith, bad_length e line (bad_line_lem e line bad_line (other_length day_digits line other))))
+    (passes_or_fails (length line =? day_digits))
   where
-    most : (r : Reply MonthOfDay) → length (line_of dayDigits r) ≤ 13
-    most (answer m) = omega (arith, month-line-length dayDigits m)
-    most (refused k) = omega (arith, refusal-line-length dayDigits k)
+    most : (r : Reply MonthOfDay) → length (line_of day_digits r) ≤ 13
+    most (answer m) = omega (arith, month_line_length day_digits m)
+    most (refused k) = omega (arith, refusal_line_length day_digits k)
 
 -- room is left for the replies to what is handed on
-pub room-left : (e : Epoch) (left : List ℕ) (n : ℕ) → n ≡ lineLength left → 0 < length left
-    → length (replyLine e (take n left)) + replyRoom * length (restAfter n left) ≤ replyRoom * length left
-room-left e left n h some =
-    let k : length (restAfter n left) ≡ length left - (n + 1) = rest-length n left in
+pub room_left : (e : Epoch) (left : List ℕ) (n : ℕ) → n ≡ line_length left → 0 < length left
+    → length (reply_line e (take n left)) + reply_room * length (rest_after n left) ≤ reply_room * length left
+room_left e left n h some =
+    let k : length (rest_after n left) ≡ length left - (n + 1) = rest_length n left in
     let fits : n ≤ length left = omega (arith, length_most left) in
     omega (
       arith,
-      reply-room e (take n left) (length left - length (restAfter n left)) (omega (arith, length-take-le n left fits)) (omega arith),
+      reply_room_lem e (take n left) (length left - length (rest_after n left)) (omega (arith, length-take-le n left fits)) (omega arith),
     )
 
 -- the first line's reply, and those of what is handed on
 module _ (e : Epoch) where
-  line-or-more : (t : Bool) (begun bs : List ℕ) (b : ℕ)
-      → outputFrom e (begun ++ (b ∷ [])) bs
-      ≡ replyLine e ((begun ++ (b ∷ [])) ++ take (lineLength bs) bs) ++ outputFrom e [] (restAfter (lineLength bs) bs)
-      → (if t then replyLine e begun ++ outputFrom e [] bs else outputFrom e (begun ++ (b ∷ [])) bs)
-      ≡ replyLine e (begun ++ take (if t then 0 else suc (lineLength bs)) (b ∷ bs))
-      ++ outputFrom e [] (restAfter (if t then 0 else suc (lineLength bs)) (b ∷ bs))
-  unfolding restAfter
-  line-or-more true begun bs b h = rw append-nil
-  line-or-more false begun bs b h = h ∙ rw (append_assoc begun (b ∷ []) (take (lineLength bs) bs), suc-add (lineLength bs) 1)
+  line_or_more : (t : Bool) (begun bs : List ℕ) (b : ℕ)
+      → output_from e (begun ++ (b ∷ [])) bs
+      ≡ reply_line e ((begun ++ (b ∷ [])) ++ take (line_length bs) bs) ++ output_from e [] (rest_after (line_length bs) bs)
+      → (if t then reply_line e begun ++ output_from e [] bs else output_from e (begun ++ (b ∷ [])) bs)
+      ≡ reply_line e (begun ++ take (if t then 0 else suc (line_length bs)) (b ∷ bs))
+      ++ output_from e [] (rest_after (if t then 0 else suc (line_length bs)) (b ∷ bs))
+  unfolding rest_after
+  line_or_more true begun bs b h = rw append-nil
+  line_or_more false begun bs b h = h ∙ rw (append_assoc begun (b ∷ []) (take (line_length bs) bs), suc-add (line_length bs) 1)
 
   from_first : (begun input : List ℕ) → 0 < length begun + length input
-      → outputFrom e begun input
-      ≡ replyLine e (begun ++ take (lineLength input) input) ++ outputFrom e [] (restAfter (lineLength input) input)
-  unfolding outputFrom lastLine restAfter lineLength
+      → output_from e begun input
+      ≡ reply_line e (begun ++ take (line_length input) input) ++ output_from e [] (rest_after (line_length input) input)
+  unfolding output_from last_line rest_after line_length
   from_first [] [] h = absurd (not-suc-le-zero h)
   from_first (b ∷ bs) [] h = rw (append-nil, append-nil)
   from_first begun (b ∷ bs) h =
-      line-or-more (b =? lineEnd) begun bs b (from_first (begun ++ (b ∷ [])) bs (omega (arith, length-append begun (b ∷ []))))
+      line_or_more (b =? line_end) begun bs b (from_first (begun ++ (b ∷ [])) bs (omega (arith, length-append begun (b ∷ []))))
 
-  pub first-line : (input : List ℕ) → 0 < length input
-      → output e input ≡ replyLine e (take (lineLength input) input) ++ output e (restAfter (lineLength input) input)
+  pub first_line : (input : List ℕ) → 0 < length input
+      → output e input ≡ reply_line e (take (line_length input) input) ++ output e (rest_after (line_length input) input)
   unfolding output
-  first-line input h = from_first [] input (omega arith)
+  first_line input h = from_first [] input (omega arith)
 
   pub no_line : (input : List ℕ) → length input ≤ 0 → output e input ≡ []
-  unfolding output outputFrom lastLine
+  unfolding output output_from last_line
   no_line [] h = refl
   no_line (b ∷ bs) h = absurd (not-suc-le-zero h)
 
   -- a turn: the first line of what is left is answered, and the rest is handed on
   pub turn : (input left next row now part : List ℕ) (used n r : ℕ)
       → used ≤ length now → output e input ≡ take used now ++ output e left → now ≡ over (take used now) row
-      → 0 < length left → n ≡ lineLength left → r ≡ length (replyLine e (take n left))
-      → part ≡ over (replyLine e (take n left)) (take (length now - used) (drop used now)) → next ≡ restAfter n left
+      → 0 < length left → n ≡ line_length left → r ≡ length (reply_line e (take n left))
+      → part ≡ over (reply_line e (take n left)) (take (length now - used) (drop used now)) → next ≡ rest_after n left
       → (output e input ≡ take (used + r) (put_mid used (length now - used) now part) ++ output e next)
       × (put_mid used (length now - used) now part ≡ over (take (used + r) (put_mid used (length now - used) now part)) row)
   turn input left next row now part used n r fits done whole some en er ep ex =
-      let first : output e left ≡ replyLine e (take n left) ++ output e next = rw (ex, en) (first-line left some) in
+      let first : output e left ≡ reply_line e (take n left) ++ output e next = rw (ex, en) (first_line left some) in
       let all = done ∙ ap (λ (l : List ℕ). take used now ++ l) first in
-      more-written (output e input) (replyLine e (take n left)) (output e next) row now part used r fits all whole er ep
+      more_written (output e input) (reply_line e (take n left)) (output e next) row now part used r fits all whole er ep
 
   -- with room enough nothing is refused
-  pub answered-whole : (input : List ℕ) (room : ℕ) → replyRoom * length input ≤ room → outputReply e input room ≡ answer (length (output e input))
-  unfolding outputReply
-  answered-whole input room h = simp (le-ltb room (replyRoom * length input) h)
+  pub answered_whole : (input : List ℕ) (room : ℕ) → reply_room * length input ≤ room → output_reply e input room ≡ answer (length (output e input))
+  unfolding output_reply
+  answered_whole input room h = simp (le-ltb room (reply_room * length input) h)
 
   -- and the room is needed: line ends alone fill it
-  pub filled : (n : ℕ) → length (output e (replicate n lineEnd)) ≡ replyRoom * n
-  unfolding output outputFrom lastLine
+  pub filled : (n : ℕ) → length (output e (replicate n line_end)) ≡ reply_room * n
+  unfolding output output_from last_line
   filled zero = refl
   filled (suc n) =
-      let first = replyLine e [] in
-      let three : length first ≡ 3 = bad-length e [] (bad-line e [] badLine (other_length dayDigits [] (λ h. omega arith))) in
-      length-append first (output e (replicate n lineEnd)) ∙ omega (arith, filled n)
+      let first = reply_line e [] in
+      let three : length first ≡ 3 = bad_length e [] (bad_line_lem e [] bad_line (other_length day_digits [] (λ h. omega arith))) in
+      length-append first (output e (replicate n line_end)) ∙ omega (arith, filled n)

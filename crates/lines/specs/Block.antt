@@ -3,34 +3,34 @@
 use Rattle.std.specs.Prelude.{◌≡◌, List, [], ◌∷◌, ℕ, suc, length, take, drop}
 use Rattle.rows.specs.Choice.{if◌then◌else◌, ◌<?◌, ◌=?◌}
 use Rattle.measure.specs.Epoch.{shoushi}
-use Rattle.frames.specs.LineEnds.{lineEnd, lineLength}
+use Rattle.frames.specs.LineEnds.{line_end, line_length}
 use Rattle.lines.specs.Line.{output}
 use Rattle.lines.specs.declared.blocks.Block.{Block}
 
 -- no line ends in these bytes
 abbrev pub Unfinished : List ℕ → Type 0
-Unfinished begun = lineLength begun ≡ length begun
+Unfinished begun = line_length begun ≡ length begun
 
 -- how many bytes of a block are whole lines: all up to its last line end
-unfoldable pub wholeLength : List ℕ → ℕ
-wholeLength [] = 0
-wholeLength (b ∷ bs) =
-    if 0 <? wholeLength bs then suc (wholeLength bs) else
-    if b =? lineEnd then 1 else 0
+unfoldable pub whole_length : List ℕ → ℕ
+whole_length [] = 0
+whole_length (b ∷ bs) =
+    if 0 <? whole_length bs then suc (whole_length bs) else
+    if b =? line_end then 1 else 0
 
-abbrev pub wholeLines : List ℕ → List ℕ
-wholeLines block = take (wholeLength block) block
+abbrev pub whole_lines : List ℕ → List ℕ
+whole_lines block = take (whole_length block) block
 
 -- a line of six bytes is refused, whatever follows: no more of it need be kept
 abbrev pub enough : ℕ
 enough = 6
 
-abbrev pub keptOf : List ℕ → List ℕ
-keptOf block = take enough (drop (wholeLength block) block)
+abbrev pub kept_of : List ℕ → List ℕ
+kept_of block = take enough (drop (whole_length block) block)
 
 -- what is written for a block, and how much of each there is
 abbrev pub written : List ℕ → List ℕ
-written block = output shoushi (wholeLines block)
+written block = output shoushi (whole_lines block)
 
 abbrev pub block_of : List ℕ → Block
-block_of block = record { written = length (written block); kept = length (keptOf block) }
+block_of block = record { written = length (written block); kept = length (kept_of block) }

@@ -2,8 +2,8 @@
 ghost use Rattle.std.specs.Prelude.{◌≡◌, ◌+◌, ◌*◌, ◌≤◌, min, length, take, drop};
 ghost use Rattle.rows.specs.Row.{over};
 ghost use Rattle.measure.specs.Epoch.{shoushi};
-ghost use Rattle.lines.specs.Line.{output, replyRoom};
-ghost use Rattle.lines.specs.Block.{wholeLength, keptOf, written, block_of};
+ghost use Rattle.lines.specs.Line.{output, reply_room};
+ghost use Rattle.lines.specs.Block.{whole_length, kept_of, written, block_of};
 
 use frames::LINE_END;
 use rows::Answer;
@@ -20,10 +20,10 @@ pub struct Block {
 
 // Answers the lines that end in the first `have` bytes, from the row's start, and puts what is kept at the buffer's start.
 pub fn answer_block(buf: &mut [u8], have: usize, out: &mut [u8]) -> Block
-    requires { (have ≤ length buf.old) × (replyRoom * length buf.old ≤ length out.old) }
+    requires { (have ≤ length buf.old) × (reply_room * length buf.old ≤ length out.old) }
     ensures value { result ≡ block_of (take have buf.old) }
-    ensures out_after { out.new ≡ over (written (take have buf.old)) out.old }
-    ensures buf_after { buf.new ≡ over (keptOf (take have buf.old)) buf.old }
+    ensures writes { out.new ≡ over (written (take have buf.old)) out.old }
+    ensures buf_after { buf.new ≡ over (kept_of (take have buf.old)) buf.old }
 {
     let whole = whole_lines(&buf[..have]);
     let written = answer_whole_lines(&buf[..whole], out);
@@ -34,9 +34,9 @@ pub fn answer_block(buf: &mut [u8], have: usize, out: &mut [u8]) -> Block
 
 // The replies to all lines, from the row's start; how many bytes they have.
 pub fn answer_whole_lines(input: &[u8], out: &mut [u8]) -> usize
-    requires { replyRoom * length input.now ≤ length out.old }
+    requires { reply_room * length input.now ≤ length out.old }
     ensures value { result ≡ length (output shoushi input.now) }
-    ensures out_after { out.new ≡ over (output shoushi input.now) out.old }
+    ensures writes { out.new ≡ over (output shoushi input.now) out.old }
 {
     let Answer::Number(n) = crate::replies(input, out) else {
         return 0;
@@ -46,7 +46,7 @@ pub fn answer_whole_lines(input: &[u8], out: &mut [u8]) -> usize
 
 // The place after the last line end.
 fn whole_lines(block: &[u8]) -> usize
-    ensures { result ≡ wholeLength block.now }
+    ensures { result ≡ whole_length block.now }
 {
     let mut n = block.len();
     while 0 < n {

@@ -2,10 +2,10 @@
 pub mod blocks;
 
 ghost use Rattle.std.specs.Prelude.{◌≡◌, ◌*◌, ◌≤◌, length};
-ghost use Rattle.rows.specs.Reply.{answerSaid};
-ghost use Rattle.rows.specs.Row.{over, rowAfter};
+ghost use Rattle.rows.specs.Reply.{answer_said};
+ghost use Rattle.rows.specs.Row.{over, row_after};
 ghost use Rattle.measure.specs.Epoch.{shoushi};
-ghost use Rattle.lines.specs.Line.{replyLine, output, replyRoom, outputReply};
+ghost use Rattle.lines.specs.Line.{reply_line, output, reply_room, output_reply};
 
 use frames::{DAY_DIGITS, day_asked, line_len, put_month_line, put_refusal_line, rest};
 use months::MonthAnswer;
@@ -16,8 +16,8 @@ pub const REPLY_ROOM: usize = 3;
 // The replies to all lines of the input, from the row's start; how many bytes they have. A row with less than three bytes for each
 // byte of the input is refused with 4.
 pub fn replies(input: &[u8], out: &mut [u8]) -> Answer
-    ensures result_value { answerSaid result ≡ outputReply shoushi input.now (length out.old) }
-    ensures out_after { out.new ≡ rowAfter (outputReply shoushi input.now (length out.old)) (output shoushi input.now) out.old }
+    ensures value { answer_said result ≡ output_reply shoushi input.now (length out.old) }
+    ensures writes { out.new ≡ row_after (output_reply shoushi input.now (length out.old)) (output shoushi input.now) out.old }
 {
     if out.len() / REPLY_ROOM < input.len() {
         return Answer::Refused(SHORT_ROW);
@@ -27,9 +27,9 @@ pub fn replies(input: &[u8], out: &mut [u8]) -> Answer
 
 // A turn for each line: the line is answered, and the rest handed on.
 fn write_replies(input: &[u8], out: &mut [u8]) -> usize
-    requires { replyRoom * length input.now ≤ length out.old }
+    requires { reply_room * length input.now ≤ length out.old }
     ensures value { result ≡ length (output shoushi input.now) }
-    ensures out_after { out.new ≡ over (output shoushi input.now) out.old }
+    ensures writes { out.new ≡ over (output shoushi input.now) out.old }
 {
     let mut left = input;
     let mut used: usize = 0;
@@ -44,9 +44,9 @@ fn write_replies(input: &[u8], out: &mut [u8]) -> usize
 
 // The reply to one line, at the row's start; how many bytes it has.
 fn put_reply_line(line: &[u8], out: &mut [u8]) -> usize
-    requires { length (replyLine shoushi line.now) ≤ length out.old }
-    ensures value { result ≡ length (replyLine shoushi line.now) }
-    ensures out_after { out.new ≡ over (replyLine shoushi line.now) out.old }
+    requires { length (reply_line shoushi line.now) ≤ length out.old }
+    ensures value { result ≡ length (reply_line shoushi line.now) }
+    ensures writes { out.new ≡ over (reply_line shoushi line.now) out.old }
 {
     let Answer::Number(day) = day_asked(line) else {
         return put_refusal_line(BAD_LINE, out);

@@ -2,14 +2,14 @@
 pub mod year_rows;
 
 ghost use Rattle.std.specs.Prelude.{◌≡◌, suc, ◌+◌, ◌*◌, ◌/◌, ◌≤◌, length};
-ghost use Rattle.rows.specs.Reply.{answer, answerSaid};
-ghost use Rattle.rows.specs.Row.{over, rowAfter};
-ghost use Rattle.measure.specs.Units.{lastYear};
+ghost use Rattle.rows.specs.Reply.{answer, answer_said};
+ghost use Rattle.rows.specs.Row.{over, row_after};
+ghost use Rattle.measure.specs.Units.{last_year};
 ghost use Rattle.measure.specs.Epoch.{shoushi};
-ghost use Rattle.month_law.specs.Calendar.{monthsIn};
+ghost use Rattle.month_law.specs.Calendar.{months_in};
 ghost use Rattle.edition.specs.Edition.{calendar};
-ghost use Rattle.lists.specs.Records.{recordWidth, yearRoom, recordsOf};
-ghost use Rattle.lists.specs.Lists.{run_of, monthsInRun, runAsked, listReply, runReply};
+ghost use Rattle.lists.specs.Records.{record_width, year_room, records_of};
+ghost use Rattle.lists.specs.Lists.{run_of, months_in_run, run_asked, list_reply, run_reply};
 
 use crate::year_rows::{RECORD_WIDTH, write_year};
 use measure::LAST_YEAR;
@@ -25,8 +25,8 @@ pub const YEAR_NUMBERS: usize = YEAR_ROOM as usize * RECORD_WIDTH;
 // The records of year n, from the row's start; how many there are. A year past the last is refused with 1, then a row that is too short
 // with 4.
 pub fn list(n: u64, row: &mut [u64]) -> Answer
-    ensures result_value { answerSaid result ≡ listReply shoushi n (length row.old / recordWidth) }
-    ensures row_after { row.new ≡ rowAfter (listReply shoushi n (length row.old / recordWidth)) (recordsOf (calendar shoushi) n (monthsIn (calendar shoushi) n)) row.old }
+    ensures value { answer_said result ≡ list_reply shoushi n (length row.old / record_width) }
+    ensures writes { row.new ≡ row_after (list_reply shoushi n (length row.old / record_width)) (records_of (calendar shoushi) n (months_in (calendar shoushi) n)) row.old }
 {
     run(n, 1, row)
 }
@@ -34,8 +34,8 @@ pub fn list(n: u64, row: &mut [u64]) -> Answer
 // The records of so many years from n on, each list from where the one before it ended; how many there are. A run of no years or past
 // the last is refused with 1, then a row that is too short with 4.
 pub fn run(n: u64, count: u64, row: &mut [u64]) -> Answer
-    ensures result_value { answerSaid result ≡ runReply shoushi n count (length row.old / recordWidth) }
-    ensures row_after { row.new ≡ rowAfter (runReply shoushi n count (length row.old / recordWidth)) (run_of (calendar shoushi) n count) row.old }
+    ensures value { answer_said result ≡ run_reply shoushi n count (length row.old / record_width) }
+    ensures writes { row.new ≡ row_after (run_reply shoushi n count (length row.old / record_width)) (run_of (calendar shoushi) n count) row.old }
 {
     match run_asked(n, count, room(row)) {
         Answer::Refused(k) => Answer::Refused(k),
@@ -45,7 +45,7 @@ pub fn run(n: u64, count: u64, row: &mut [u64]) -> Answer
 
 // Whether a run is answered where a row has room for so many records: its years, or its refusal.
 pub fn run_asked(n: u64, count: u64, room: u64) -> Answer
-    ensures { answerSaid result ≡ runAsked n count room (answer count) }
+    ensures { answer_said result ≡ run_asked n count room (answer count) }
 {
     if count == 0 {
         return Answer::Refused(NO_YEAR);
@@ -64,16 +64,16 @@ pub fn run_asked(n: u64, count: u64, room: u64) -> Answer
 
 // How many records a row has room for.
 fn room(row: &[u64]) -> u64
-    ensures { result ≡ length row.now / recordWidth }
+    ensures { result ≡ length row.now / record_width }
 {
     (row.len() / RECORD_WIDTH) as u64
 }
 
 // Each list is written into the row from where the one before it ended, and hands on the next head, so that only the first is sought.
 fn write_years(n: u64, count: u64, row: &mut [u64]) -> u64
-    requires { (n + count ≤ suc lastYear) × (yearRoom * count ≤ length row.old / recordWidth) }
-    ensures value { result ≡ monthsInRun (calendar shoushi) n count }
-    ensures row_after { row.new ≡ over (run_of (calendar shoushi) n count) row.old }
+    requires { (n + count ≤ suc last_year) × (year_room * count ≤ length row.old / record_width) }
+    ensures value { result ≡ months_in_run (calendar shoushi) n count }
+    ensures writes { row.new ≡ over (run_of (calendar shoushi) n count) row.old }
 {
     let mut start = head_span(n);
     let mut months: u64 = 0;

@@ -1,13 +1,13 @@
 // The list of one year, as month records in a lent row of numbers.
 ghost use Rattle.std.specs.Prelude.{◌≡◌, [], ◌∷◌, suc, ◌/◌, ◌≤◌, length};
 ghost use Rattle.rows.specs.Row.{over};
-ghost use Rattle.measure.specs.Units.{lastYear};
+ghost use Rattle.measure.specs.Units.{last_year};
 ghost use Rattle.measure.specs.Epoch.{shoushi};
-ghost use Rattle.moons.specs.Lunation.{lastLunation};
-ghost use Rattle.month_law.specs.Calendar.{head, monthsIn};
+ghost use Rattle.moons.specs.Lunation.{last_lunation};
+ghost use Rattle.month_law.specs.Calendar.{head, months_in};
 ghost use Rattle.edition.specs.Edition.{calendar};
 ghost use Rattle.months.specs.Span.{span_of};
-ghost use Rattle.lists.specs.Records.{recordWidth, yearRoom, recordOf, recordsOf};
+ghost use Rattle.lists.specs.Records.{record_width, year_room, record_of, records_of};
 
 use edition::{first_day, middle_day};
 use months::kinds::{leap_mark, month_number};
@@ -27,9 +27,9 @@ pub const MARK: usize = 3;
 // The list of year n, from its head on: a month is of it where the one after begins no later than the next solstice. The first that is
 // not is the next head, which is handed back.
 pub fn write_year(n: u64, start: Span, row: &mut [u64]) -> Span
-    requires { (n ≤ lastYear) × (start ≡ span_of (calendar shoushi) (head (calendar shoushi) n)) × (yearRoom ≤ length row.old / recordWidth) }
+    requires { (n ≤ last_year) × (start ≡ span_of (calendar shoushi) (head (calendar shoushi) n)) × (year_room ≤ length row.old / record_width) }
     ensures value { result ≡ span_of (calendar shoushi) (head (calendar shoushi) (suc n)) }
-    ensures row_after { row.new ≡ over (recordsOf (calendar shoushi) n (monthsIn (calendar shoushi) n)) row.old }
+    ensures writes { row.new ≡ over (records_of (calendar shoushi) n (months_in (calendar shoushi) n)) row.old }
 {
     let solstice = middle_day(12 * (n + 1));
     let mut span = start;
@@ -44,7 +44,7 @@ pub fn write_year(n: u64, start: Span, row: &mut [u64]) -> Span
 
 // The next month: its first day is known, so that each month takes one true new moon.
 fn span_after(span: Span) -> Span
-    requires { (span ≡ span_of (calendar shoushi) span.lunation) × (span.lunation ≤ lastLunation) }
+    requires { (span ≡ span_of (calendar shoushi) span.lunation) × (span.lunation ≤ last_lunation) }
     ensures { result ≡ span_of (calendar shoushi) (suc span.lunation) }
 {
     Span {
@@ -56,8 +56,8 @@ fn span_after(span: Span) -> Span
 
 // The month's kind goes by the last middle term before its end.
 fn put_span(span: Span, row: &mut [u64])
-    requires { (span ≡ span_of (calendar shoushi) span.lunation) × (span.lunation ≤ lastLunation) × (recordWidth ≤ length row.old) }
-    ensures { row.new ≡ over (recordOf (calendar shoushi) span.lunation) row.old }
+    requires { (span ≡ span_of (calendar shoushi) span.lunation) × (span.lunation ≤ last_lunation) × (record_width ≤ length row.old) }
+    ensures { row.new ≡ over (record_of (calendar shoushi) span.lunation) row.old }
 {
     let kind = kind_by(span.first, last_term(span.next));
     put_four(
@@ -71,7 +71,7 @@ fn put_span(span: Span, row: &mut [u64])
 
 // The four numbers of a record, at the row's start.
 fn put_four(first: u64, days: u64, number: u64, mark: u64, row: &mut [u64])
-    requires { recordWidth ≤ length row.old }
+    requires { record_width ≤ length row.old }
     ensures { row.new ≡ over (first ∷ days ∷ number ∷ mark ∷ []) row.old }
 {
     row[FIRST] = first;

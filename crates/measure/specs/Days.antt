@@ -5,15 +5,15 @@ use Rattle.measure.specs.Units.{day}
 use Rattle.measure.specs.declared.Name.{Name}
 
 -- the day of a running time, and the remainder
-abbrev pub dayOf : ℕ → ℕ
-dayOf t = t / day
+abbrev pub day_of : ℕ → ℕ
+day_of t = t / day
 
-abbrev pub remainderOf : ℕ → ℕ
-remainderOf t = t % day
+abbrev pub remainder_of : ℕ → ℕ
+remainder_of t = t % day
 
 -- 000:201-211. The sixty-name of a running day, its stem and its branch, counted from 0
-abbrev pub sixtyName : ℕ → ℕ
-sixtyName d = d % 60
+abbrev pub sixty_name : ℕ → ℕ
+sixty_name d = d % 60
 
 abbrev pub stem : ℕ → ℕ
 stem d = d % 10
@@ -23,4 +23,4 @@ branch d = d % 12
 
 -- the three together
 abbrev pub name_of : ℕ → Name
-name_of d = record { name = sixtyName d; stem = stem d; branch = branch d }
+name_of d = record { name = sixty_name d; stem = stem d; branch = branch d }

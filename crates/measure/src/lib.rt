@@ -1,7 +1,9 @@
 // Units and constants, the running day count and its names.
+#![tactic(auto)]
+
 ghost use Rattle.std.specs.Prelude.{◌≡◌, ◌*◌, ◌/◌, ◌≤◌, ◌<◌};
 ghost use Rattle.measure.specs.Units.{day};
-ghost use Rattle.measure.specs.Days.{dayOf, remainderOf, name_of};
+ghost use Rattle.measure.specs.Days.{day_of, remainder_of, name_of};
 
 // All times are in wei.
 pub const MIAO: u64 = 100;
@@ -42,14 +44,14 @@ pub const LAST_YEAR: u64 = 999;
 
 // The day of a running time.
 pub fn day_of(time: u64) -> u64
-    ensures { result ≡ dayOf time }
+    ensures { result ≡ day_of time }
 {
     time / DAY
 }
 
 // What a running time has over its day.
 pub fn remainder_of(time: u64) -> u64
-    ensures { result ≡ remainderOf time }
+    ensures { result ≡ remainder_of time }
 {
     time % DAY
 }

@@ -4,7 +4,7 @@
 use Rattle.std.specs.Prelude.{Bool, ◌&&◌, ℕ, suc, ◌+◌, ◌-◌, ◌*◌, ◌/◌, ◌%◌}
 use Rattle.rows.specs.Choice.{◌≤?◌, ◌<?◌, ◌=?◌}
 use Rattle.month_law.specs.Steps.{seek}
-use Rattle.month_law.specs.Count.{oneIf, count}
+use Rattle.month_law.specs.Count.{one_if, count}
 
 pub record Calendar : Type 0 where
   -- the first day of lunation l
@@ -13,8 +13,8 @@ pub record Calendar : Type 0 where
   pub mid : ℕ → ℕ
 
 -- the number of the ordinary month of rank t among the twelve: 11, 12, 1 .. 10
-unfoldable pub numberOfRank : ℕ → ℕ
-numberOfRank t = (t + 10) % 12 + 1
+unfoldable pub number_of_rank : ℕ → ℕ
+number_of_rank t = (t + 10) % 12 + 1
 
 module _ (c : Calendar) where
   -- month l runs from its first day to the day before that of l + 1
@@ -23,21 +23,21 @@ module _ (c : Calendar) where
 
   -- the month of a day: the last whose first day is not after it. No month has more than 30 days, so the search may begin at the
   -- thirtieth part of the days gone
-  unfoldable pub monthOf : ℕ → ℕ
-  monthOf d = seek c.first d ((d - c.first 0) / 30) d
+  unfoldable pub month_of : ℕ → ℕ
+  month_of d = seek c.first d ((d - c.first 0) / 30) d
 
   -- the head of year n: the last month whose first day is not after the solstice's day
   unfoldable pub head : ℕ → ℕ
-  head n = monthOf (c.mid (12 * n))
+  head n = month_of (c.mid (12 * n))
 
   -- its list runs from there to before the next head
-  abbrev pub monthsIn : ℕ → ℕ
-  monthsIn n = head (suc n) - head n
+  abbrev pub months_in : ℕ → ℕ
+  months_in n = head (suc n) - head n
 
   -- the year in whose list month l stands: the last whose head is not after it. No year has more than 366 days, so the search may
   -- begin at that part of the days gone
-  unfoldable pub yearOf : ℕ → ℕ
-  yearOf l = seek head l ((c.first l - c.mid 0) / 366) l
+  unfoldable pub year_of : ℕ → ℕ
+  year_of l = seek head l ((c.first l - c.mid 0) / 366) l
 
   -- month l holds the day of middle term j; equal days count as held
   abbrev pub holds : ℕ → ℕ → Bool
@@ -48,13 +48,13 @@ module _ (c : Calendar) where
   held n l = count (λ i. holds l (12 * n + i)) 12
 
   -- in a list of 13 the month that holds none is leap; places count from 0
-  unfoldable pub leapAt : ℕ → ℕ → Bool
-  leapAt n p = (monthsIn n =? 13) && (held n (head n + p) =? 0)
+  unfoldable pub leap_at : ℕ → ℕ → Bool
+  leap_at n p = (months_in n =? 13) && (held n (head n + p) =? 0)
 
   -- and repeats the number before it: a leap month does not count in the rank
   unfoldable pub number_at : ℕ → ℕ → ℕ
-  number_at n p = numberOfRank (p - count (leapAt n) (suc p))
+  number_at n p = number_of_rank (p - count (leap_at n) (suc p))
 
   -- its mark in a record
-  abbrev pub leapMark : ℕ → ℕ → ℕ
-  leapMark n p = oneIf (leapAt n p)
+  abbrev pub leap_mark : ℕ → ℕ → ℕ
+  leap_mark n p = one_if (leap_at n p)

@@ -3,9 +3,9 @@
 use Rattle.std.specs.Prelude.{Bool, ℕ, zero, suc, ◌+◌}
 use Rattle.rows.specs.Choice.{if◌then◌else◌}
 
-abbrev pub oneIf : Bool → ℕ
-oneIf b = if b then 1 else 0
+abbrev pub one_if : Bool → ℕ
+one_if b = if b then 1 else 0
 
 unfoldable pub count : (ℕ → Bool) → ℕ → ℕ
 count test zero = 0
-count test (suc k) = count test k + oneIf (test k)
+count test (suc k) = count test k + one_if (test k)

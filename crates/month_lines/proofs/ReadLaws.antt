@@ -11,64 +11,64 @@ use lib.Seq.{take-add}
 use Rattle.rows.specs.Choice.{if◌then◌else◌, ◌=?◌}
 use Rattle.rows.specs.Row.{over}
 use Rattle.measure.specs.Epoch.{shoushi}
-use Rattle.rows.proofs.Row.{over-least, written as written-first}
+use Rattle.rows.proofs.Row.{over_least, written as written-first}
 use Rattle.lines.specs.Line.{output}
-use Rattle.lines.specs.Block.{Unfinished, enough, keptOf, written, block_of}
-use Rattle.lines.proofs.Kept.{kept-most, kept-unfinished}
+use Rattle.lines.specs.Block.{Unfinished, enough, kept_of, written, block_of}
+use Rattle.lines.proofs.Kept.{kept_most, kept_unfinished}
 use Rattle.lines.specs.declared.blocks.Block.{Block}
-use Rattle.month_lines.specs.Input.{read_of, writtenFor, keptFor, repliesIn, turnAfter, LeftOf, Left}
+use Rattle.month_lines.specs.Input.{read_of, written_for, kept_for, replies_in, turn_after, LeftOf, Left}
 use Rattle.month_lines.specs.declared.Turn.{Turn}
 use Rattle.month_lines.specs.declared.Read.{Read}
 use Rattle.month_lines.specs.declared.Read.TheVariants.{Last, Part}
 
-pub replies-within : (kept : ℕ) (input row out : List ℕ) (read : Read) → out ≡ over (writtenFor kept input) row → read ≡ read_of kept input
-    → repliesIn read ≤ length out
-unfolding read_of writtenFor
-replies-within kept input row out read e h = by (length input =? kept) h e
+pub replies_within : (kept : ℕ) (input row out : List ℕ) (read : Read) → out ≡ over (written_for kept input) row → read ≡ read_of kept input
+    → replies_in read ≤ length out
+unfolding read_of written_for
+replies_within kept input row out read e h = by (length input =? kept) h e
   where
     by : (t : Bool) → read ≡ (if t then Last (length (output shoushi input)) else Part (block_of input))
         → out ≡ over (if t then output shoushi input else written input) row
-        → repliesIn read ≤ length out
-    by true g f = omega (arith, ap repliesIn g, over-least (output shoushi input) row, ap length f)
-    by false g f = omega (arith, ap repliesIn g, over-least (written input) row, ap length f)
+        → replies_in read ≤ length out
+    by true g f = omega (arith, ap replies_in g, over_least (output shoushi input) row, ap length f)
+    by false g f = omega (arith, ap replies_in g, over_least (written input) row, ap length f)
 
 -- the block is what was kept and then what was read
 part_left : (kept have : ℕ) (more : ℕ) (begun row buf : List ℕ) (b : Block) → have ≡ kept + more → take kept row ≡ begun
-    → Part b ≡ read_of kept (take have row) → buf ≡ over (keptFor kept (take have row)) row → LeftOf begun b.kept buf
-unfolding read_of keptFor
+    → Part b ≡ read_of kept (take have row) → buf ≡ over (kept_for kept (take have row)) row → LeftOf begun b.kept buf
+unfolding read_of kept_for
 part_left kept have more begun row buf b e f h g = by (length (take have row) =? kept) h g
   where
     input : take have row ≡ begun ++ take more (drop kept row)
     input = ap (λ (n : ℕ). take n row) e ∙ take-add kept more row ∙ ap (λ (l : List ℕ). l ++ take more (drop kept row)) f
 
     by : (t : Bool) → Part b ≡ (if t then Last (length (output shoushi (take have row))) else Part (block_of (take have row)))
-        → buf ≡ over (if t then [] else keptOf (take have row)) row
+        → buf ≡ over (if t then [] else kept_of (take have row)) row
         → LeftOf begun b.kept buf
     by true p q = let never : ◌≡◌ {A = ℕ} 0 1 = cc in absurd (omega arith)
     by false p q =
         let same : b ≡ block_of (take have row) = cc in
-        let long : b.kept ≡ length (keptOf (take have row)) = ap (λ (x : Block). x.kept) same in
+        let long : b.kept ≡ length (kept_of (take have row)) = ap (λ (x : Block). x.kept) same in
         record {
           more = take more (drop kept row);
-          counted = long ∙ ap (λ (l : List ℕ). length (keptOf l)) input;
-          left = written-first (keptOf (take have row)) row buf b.kept (sym long) q ∙ ap keptOf input;
+          counted = long ∙ ap (λ (l : List ℕ). length (kept_of l)) input;
+          left = written-first (kept_of (take have row)) row buf b.kept (sym long) q ∙ ap kept_of input;
         }
 
 -- so a turn that goes on has kept what its block leaves
-pub turn-left : (kept have more : ℕ) (begun row buf : List ℕ) (read : Read) (went : Bool) (turn : Turn) → turn ≡ turnAfter read went
-    → have ≡ kept + more → take kept row ≡ begun → read ≡ read_of kept (take have row) → buf ≡ over (keptFor kept (take have row)) row
+pub turn_left : (kept have more : ℕ) (begun row buf : List ℕ) (read : Read) (went : Bool) (turn : Turn) → turn ≡ turn_after read went
+    → have ≡ kept + more → take kept row ≡ begun → read ≡ read_of kept (take have row) → buf ≡ over (kept_for kept (take have row)) row
     → Left turn begun buf
-turn-left kept have more begun row buf read went turn t e f h g = subst⁻¹ (λ (x : Turn). Left x begun buf) t (by read went h)
+turn_left kept have more begun row buf read went turn t e f h g = subst⁻¹ (λ (x : Turn). Left x begun buf) t (by read went h)
   where
-    by : (r : Read) (w : Bool) → r ≡ read_of kept (take have row) → Left (turnAfter r w) begun buf
+    by : (r : Read) (w : Bool) → r ≡ read_of kept (take have row) → Left (turn_after r w) begun buf
     by (Last n) w p = tt
     by (Part b) true p = part_left kept have more begun row buf b e f p g
     by (Part b) false p = tt
 
 -- which is an unfinished line, or enough of it
 module _ (begun : List ℕ) (n : ℕ) (buf : List ℕ) (l : LeftOf begun n buf) where
-  pub left-most : n ≤ enough
-  left-most = omega (arith, l.counted, kept-most (begun ++ l.more))
+  pub left_most : n ≤ enough
+  left_most = omega (arith, l.counted, kept_most (begun ++ l.more))
 
-  pub left-unfinished : Unfinished (take n buf)
-  left-unfinished = subst⁻¹ Unfinished l.left (kept-unfinished (begun ++ l.more))
+  pub left_unfinished : Unfinished (take n buf)
+  left_unfinished = subst⁻¹ Unfinished l.left (kept_unfinished (begun ++ l.more))

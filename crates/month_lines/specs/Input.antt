@@ -4,7 +4,7 @@ use Rattle.std.specs.Prelude.{Bool, ◌≡◌, List, [], ◌++◌, ℕ, length, 
 use Rattle.rows.specs.Choice.{if◌then◌else◌, ◌=?◌}
 use Rattle.measure.specs.Epoch.{shoushi}
 use Rattle.lines.specs.Line.{output}
-use Rattle.lines.specs.Block.{keptOf, written, block_of}
+use Rattle.lines.specs.Block.{kept_of, written, block_of}
 use Rattle.month_lines.specs.declared.Read.{Read}
 use Rattle.month_lines.specs.declared.Read.TheVariants.{Last, Part}
 use Rattle.month_lines.specs.declared.Turn.{Turn}
@@ -15,27 +15,27 @@ unfoldable pub read_of : ℕ → List ℕ → Read
 read_of kept input = if length input =? kept then Last (length (output shoushi input)) else Part (block_of input)
 
 -- what is written for them, and what is kept of them
-unfoldable pub writtenFor : ℕ → List ℕ → List ℕ
-writtenFor kept input = if length input =? kept then output shoushi input else written input
+unfoldable pub written_for : ℕ → List ℕ → List ℕ
+written_for kept input = if length input =? kept then output shoushi input else written input
 
-unfoldable pub keptFor : ℕ → List ℕ → List ℕ
-keptFor kept input = if length input =? kept then [] else keptOf input
+unfoldable pub kept_for : ℕ → List ℕ → List ℕ
+kept_for kept input = if length input =? kept then [] else kept_of input
 
 -- how many bytes are written for what was read
-abbrev pub repliesIn : Read → ℕ
-repliesIn (Last n) = n
-repliesIn (Part b) = b.written
+abbrev pub replies_in : Read → ℕ
+replies_in (Last n) = n
+replies_in (Part b) = b.written
 
 -- how a turn ends, by what was read and whether the replies went out: a block that was answered leaves a line to go on with
-abbrev pub turnAfter : Read → Bool → Turn
-turnAfter (Last n) went = Over
-turnAfter (Part b) went = if went then Kept b.kept else Over
+abbrev pub turn_after : Read → Bool → Turn
+turn_after (Last n) went = Over
+turn_after (Part b) went = if went then Kept b.kept else Over
 
 -- what a turn left at the buffer's start: what is kept of the bytes that were there and of more that were read
 pub record LeftOf (begun : List ℕ) (n : ℕ) (buf : List ℕ) : Type 0 where
   pub more : List ℕ
-  pub counted : n ≡ length (keptOf (begun ++ more))
-  pub left : take n buf ≡ keptOf (begun ++ more)
+  pub counted : n ≡ length (kept_of (begun ++ more))
+  pub left : take n buf ≡ kept_of (begun ++ more)
 
 abbrev pub Left : Turn → List ℕ → List ℕ → Type 0
 Left (Kept n) begun buf = LeftOf begun n buf

@@ -2,9 +2,9 @@
 ghost use Rattle.std.specs.Prelude.{◌≡◌, ◌*◌, ◌-◌, ◌≤◌, length, take};
 ghost use Rattle.rows.specs.Row.{over};
 ghost use Rattle.reads.specs.Given.{Within};
-ghost use Rattle.lines.specs.Line.{replyRoom};
+ghost use Rattle.lines.specs.Line.{reply_room};
 ghost use Rattle.lines.specs.Block.{enough, Unfinished};
-ghost use Rattle.month_lines.specs.Input.{read_of, writtenFor, keptFor, repliesIn, turnAfter, Left};
+ghost use Rattle.month_lines.specs.Input.{read_of, written_for, kept_for, replies_in, turn_after, Left};
 
 use libc::{STDERR_FILENO, STDIN_FILENO, STDOUT_FILENO};
 use lines::REPLY_ROOM;
@@ -58,10 +58,10 @@ fn write_out(out: &[u8]) -> bool {
 
 // The first `have` bytes answered, of which so many were kept. Where no more were read, they are the last line.
 fn answer_read(buf: &mut [u8], kept: usize, have: usize, out: &mut [u8]) -> Read
-    requires { (kept ≤ have) × (have ≤ length buf.old) × (replyRoom * length buf.old ≤ length out.old) }
+    requires { (kept ≤ have) × (have ≤ length buf.old) × (reply_room * length buf.old ≤ length out.old) }
     ensures value { result ≡ read_of kept (take have buf.old) }
-    ensures out_after { out.new ≡ over (writtenFor kept (take have buf.old)) out.old }
-    ensures buf_after { buf.new ≡ over (keptFor kept (take have buf.old)) buf.old }
+    ensures writes { out.new ≡ over (written_for kept (take have buf.old)) out.old }
+    ensures buf_after { buf.new ≡ over (kept_for kept (take have buf.old)) buf.old }
 {
     if have == kept {
         return Read::Last(lines::blocks::answer_whole_lines(&buf[..have], out));
@@ -71,7 +71,7 @@ fn answer_read(buf: &mut [u8], kept: usize, have: usize, out: &mut [u8]) -> Read
 
 // How many bytes the replies have.
 fn replies_in(read: Read) -> usize
-    ensures { result ≡ repliesIn read }
+    ensures { result ≡ replies_in read }
 {
     match read {
         Read::Last(n) => n,
@@ -81,7 +81,7 @@ fn replies_in(read: Read) -> usize
 
 // How a turn ends, where the replies went out or did not.
 fn turn_after(read: Read, went: bool) -> Turn
-    ensures { result ≡ turnAfter read went }
+    ensures { result ≡ turn_after read went }
 {
     match read {
         Read::Last(_) => Turn::Over,
@@ -98,7 +98,7 @@ fn turn_after(read: Read, went: bool) -> Turn
 // One turn: reads, and writes the replies to what was read. A failed write ends it, and a failed read, which is told; a line that was begun
 // has no reply then: its end was not seen.
 fn one_turn(buf: &mut [u8], out: &mut [u8], kept: usize) -> Turn
-    requires kept_le_enough { (kept ≤ enough) × (enough ≤ length buf.old) × (replyRoom * length buf.old ≤ length out.old) }
+    requires kept_le_enough { (kept ≤ enough) × (enough ≤ length buf.old) × (reply_room * length buf.old ≤ length out.old) }
     requires unfinished { Unfinished (take kept buf.old) }
     ensures { Left result (take kept buf.old) buf.new }
 {

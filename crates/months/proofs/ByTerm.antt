@@ -5,41 +5,41 @@ use mathlib.Core.Path.{◌≡◌, refl, ap, sym, ◌∙◌}
 use Prim.Native.Nat.{ℕ, suc, ◌+◌, ◌-◌, ◌/◌, ◌<◌}
 use native.Mathlib.Omega.{arith}
 use Rattle.rows.specs.Choice.{if◌then◌else◌}
-use Rattle.month_law.specs.Count.{oneIf}
-use Rattle.month_law.specs.Calendar.{Calendar, length_of, monthOf, head, monthsIn, yearOf, leapAt, number_at, leapMark}
+use Rattle.month_law.specs.Count.{one_if}
+use Rattle.month_law.specs.Calendar.{Calendar, length_of, month_of, head, months_in, year_of, leap_at, number_at, leap_mark}
 use Rattle.month_law.specs.Lawful.{Lawful}
-use Rattle.month_law.proofs.Rising.{step-unique}
-use Rattle.month_law.proofs.Months.{mid-rises}
-use Rattle.month_law.proofs.Terms.{lastTerm, lacks-is, last-unique, InList, year-to-list}
-use Rattle.month_law.proofs.Lists.{leap-lacks, listed-place}
-use Rattle.month_law.proofs.Numbers.{number-by-term}
-use Rattle.month_law.proofs.Runs.{year-of}
-use Rattle.months.specs.Kind.{Kind, ordinary, leap, number_in, markIn}
-use Rattle.months.specs.Month.{MonthOfDay, kind_at, placed, monthOfDay}
-use Rattle.months.specs.Span.{LastBefore, kindBy}
+use Rattle.month_law.proofs.Rising.{step_unique}
+use Rattle.month_law.proofs.Months.{mid_rises}
+use Rattle.month_law.proofs.Terms.{last_term, lacks_is, last_unique, InList, year_to_list}
+use Rattle.month_law.proofs.Lists.{leap_lacks, listed_place}
+use Rattle.month_law.proofs.Numbers.{number_by_term}
+use Rattle.month_law.proofs.Runs.{year_of_lem}
+use Rattle.months.specs.Kind.{Kind, ordinary, leap, number_in, mark_in}
+use Rattle.months.specs.Month.{MonthOfDay, kind_at, placed, month_of_day}
+use Rattle.months.specs.Span.{LastBefore, kind_by}
 
 -- the kind at a place has the number there, and its mark tells whether it is leap
-number-chosen : (t : Bool) (n : ℕ) → number_in (if t then leap n else ordinary n) ≡ n
-number-chosen true n = refl
-number-chosen false n = refl
+number_chosen : (t : Bool) (n : ℕ) → number_in (if t then leap n else ordinary n) ≡ n
+number_chosen true n = refl
+number_chosen false n = refl
 
-mark-chosen : (t : Bool) (n : ℕ) → markIn (if t then leap n else ordinary n) ≡ oneIf t
-mark-chosen true n = refl
-mark-chosen false n = refl
+mark_chosen : (t : Bool) (n : ℕ) → mark_in (if t then leap n else ordinary n) ≡ one_if t
+mark_chosen true n = refl
+mark_chosen false n = refl
 
 module _ (c : Calendar) (n p : ℕ) where
-  pub number-in-kind : number_in (kind_at c n p) ≡ number_at c n p
+  pub number_in_kind : number_in (kind_at c n p) ≡ number_at c n p
   unfolding kind_at
-  number-in-kind = number-chosen (leapAt c n p) (number_at c n p)
+  number_in_kind = number_chosen (leap_at c n p) (number_at c n p)
 
-  pub mark-in-kind : markIn (kind_at c n p) ≡ leapMark c n p
+  pub mark_in_kind : mark_in (kind_at c n p) ≡ leap_mark c n p
   unfolding kind_at
-  mark-in-kind = mark-chosen (leapAt c n p) (number_at c n p)
+  mark_in_kind = mark_chosen (leap_at c n p) (number_at c n p)
 
 module _ (c : Calendar) where
   -- day d of month l, which stands in the list of year n
-  abbrev pub monthTold : ℕ → ℕ → ℕ → Kind → MonthOfDay
-  monthTold d l n kind =
+  abbrev pub month_told : ℕ → ℕ → ℕ → Kind → MonthOfDay
+  month_told d l n kind =
       record {
         kind = kind;
         year = n;
@@ -50,47 +50,47 @@ module _ (c : Calendar) where
       }
 
   -- the month of a day is the month that holds it, in the year in whose list that month stands
-  pub month-of-day : (d : ℕ)
-      → let l = monthOf c d in let n = yearOf c l in monthOfDay c d ≡ monthTold d l n (kind_at c n (l - head c n))
-  unfolding monthOfDay placed
-  month-of-day d = refl
+  pub month_of_day_lem : (d : ℕ)
+      → let l = month_of c d in let n = year_of c l in month_of_day c d ≡ month_told d l n (kind_at c n (l - head c n))
+  unfolding month_of_day placed
+  month_of_day_lem d = refl
 
 module _ (c : Calendar) (ok : Lawful c) where
   -- a day has one last middle term before it
-  pub last-before : (next j k : ℕ) → LastBefore c next j → LastBefore c next k → j ≡ k
-  last-before next j k p q =
-      step-unique c.mid (mid-rises c ok) (next - 1) j k (record { since = omega arith; until = omega arith })
+  pub last_before : (next j k : ℕ) → LastBefore c next j → LastBefore c next k → j ≡ k
+  last_before next j k p q =
+      step_unique c.mid (mid_rises c ok) (next - 1) j k (record { since = omega arith; until = omega arith })
       (record { since = omega arith; until = omega arith })
 
   -- the last middle term before the next month
-  pub last-is : (l j : ℕ) → LastBefore c (c.first (suc l)) j → j ≡ lastTerm c l
-  last-is l j h = last-unique c ok l j (record { come = h.come; next = h.not-come })
+  pub last_is : (l j : ℕ) → LastBefore c (c.first (suc l)) j → j ≡ last_term c l
+  last_is l j h = last_unique c ok l j (record { come = h.come; next = h.not_come })
 
   -- tells the year in whose list the month stands
-  pub year-told : (l j : ℕ) → LastBefore c (c.first (suc l)) j → InList c (j / 12) l
-  year-told l j h = year-to-list c ok (j / 12) l (record { since = omega (arith, last-is l j h); until = omega (arith, last-is l j h) })
+  pub year_told : (l j : ℕ) → LastBefore c (c.first (suc l)) j → InList c (j / 12) l
+  year_told l j h = year_to_list c ok (j / 12) l (record { since = omega (arith, last_is l j h); until = omega (arith, last_is l j h) })
 
-  pub year-is : (l j : ℕ) → LastBefore c (c.first (suc l)) j → j / 12 ≡ yearOf c l
-  year-is l j h = year-of c ok l (j / 12) (year-told l j h)
+  pub year_is : (l j : ℕ) → LastBefore c (c.first (suc l)) j → j / 12 ≡ year_of c l
+  year_is l j h = year_of_lem c ok l (j / 12) (year_told l j h)
 
   -- and its kind
-  pub kind-is : (n p j : ℕ) → p < monthsIn c n → LastBefore c (c.first (suc (head c n + p))) j
-      → kindBy c (c.first (head c n + p)) j ≡ kind_at c n p
+  pub kind_is : (n p j : ℕ) → p < months_in c n → LastBefore c (c.first (suc (head c n + p))) j
+      → kind_by c (c.first (head c n + p)) j ≡ kind_at c n p
   unfolding kind_at
-  kind-is n p j h last =
+  kind_is n p j h last =
       let l = head c n + p in
-      let e : j ≡ lastTerm c l = last-is l j last in
-      rw (leap-lacks c ok n p h, lacks-is c l, number-by-term c ok n p h, ← e)
+      let e : j ≡ last_term c l = last_is l j last in
+      rw (leap_lacks c ok n p h, lacks_is c l, number_by_term c ok n p h, ← e)
 
-  pub kind-told : (l j : ℕ) → LastBefore c (c.first (suc l)) j → kindBy c (c.first l) j ≡ kind_at c (j / 12) (l - head c (j / 12))
-  kind-told l j last =
+  pub kind_told : (l j : ℕ) → LastBefore c (c.first (suc l)) j → kind_by c (c.first l) j ≡ kind_at c (j / 12) (l - head c (j / 12))
+  kind_told l j last =
       let n = j / 12 in
-      let at : head c n + (l - head c n) ≡ l = listed-place c ok n l (year-told l j last) in
-      ap (λ (m : ℕ). kindBy c (c.first m) j) (sym at)
-      ∙ kind-is n (l - head c n) j (omega (arith, year-told l j last)) (rw at last)
+      let at : head c n + (l - head c n) ≡ l = listed_place c ok n l (year_told l j last) in
+      ap (λ (m : ℕ). kind_by c (c.first m) j) (sym at)
+      ∙ kind_is n (l - head c n) j (omega (arith, year_told l j last)) (rw at last)
 
   -- so the month of a day is told by its span and that term
-  pub month-is : (d l j : ℕ) → l ≡ monthOf c d → LastBefore c (c.first (suc l)) j
-      → monthTold c d l (j / 12) (kindBy c (c.first l) j) ≡ monthOfDay c d
-  month-is d l j e last =
-      rw (month-of-day c d, ← e, ← year-is l j last) (ap (monthTold c d l (j / 12)) (kind-told l j last))
+  pub month_is : (d l j : ℕ) → l ≡ month_of c d → LastBefore c (c.first (suc l)) j
+      → month_told c d l (j / 12) (kind_by c (c.first l) j) ≡ month_of_day c d
+  month_is d l j e last =
+      rw (month_of_day_lem c d, ← e, ← year_is l j last) (ap (month_told c d l (j / 12)) (kind_told l j last))

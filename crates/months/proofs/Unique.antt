@@ -2,42 +2,42 @@
 -- Assumes nothing.
 use mathlib.Core.Path.{◌≡◌, ◌∙◌, refl, sym}
 use Rattle.rows.proofs.Determined.{OneReply, read_back, one_answer}
-use Rattle.months.specs.Kind.{Kind, ordinary, leap, kindSaid}
+use Rattle.months.specs.Kind.{Kind, ordinary, leap, kind_said}
 use Rattle.months.specs.declared.kinds.Kind.{Kind as KindCase}
 use Rattle.months.specs.declared.kinds.Kind.TheVariants.{Ordinary, Leap}
 use Rattle.months.proofs as own
 use Rattle.rows.specs.Reply.{Reply, answer, refused}
 use Rattle.measure.specs.Epoch.{shoushi}
 use Rattle.edition.specs.Edition.{calendar}
-use Rattle.edition.proofs.Edition.{shoushi-lawful}
-use Rattle.months.specs.Month.{MonthOfDay, monthSaid, monthAnswerSaid}
+use Rattle.edition.proofs.Edition.{shoushi_lawful}
+use Rattle.months.specs.Month.{MonthOfDay, month_said, month_answer_said}
 use Rattle.months.specs.declared.Month.{Month}
 use Rattle.months.specs.declared.MonthAnswer.{MonthAnswer}
 use Rattle.months.specs.declared.MonthAnswer.TheVariants.{Month as InMonth, Refused}
-use Rattle.months.proofs.ByTerm.{last-before}
+use Rattle.months.proofs.ByTerm.{last_before}
 
-pub kindMeant : Kind → KindCase
-kindMeant (ordinary n) = Ordinary n
-kindMeant (leap n) = Leap n
+pub kind_meant : Kind → KindCase
+kind_meant (ordinary n) = Ordinary n
+kind_meant (leap n) = Leap n
 
-pub kind-back : (k : KindCase) → kindMeant (kindSaid k) ≡ k
-unfolding kindMeant
-kind-back (Ordinary n) = refl
-kind-back (Leap n) = refl
+pub kind_back : (k : KindCase) → kind_meant (kind_said k) ≡ k
+unfolding kind_meant
+kind_back (Ordinary n) = refl
+kind_back (Leap n) = refl
 
-pub month-number-unique : OneReply own.kinds.month_number.Kinds.ps own.kinds.month_number.Kinds.r own.kinds.month_number.Reads.Post
-month-number-unique κs a x y s t p q = p ∙ sym q
+pub month_number_unique : OneReply own.kinds.month_number.Kinds.ps own.kinds.month_number.Kinds.r own.kinds.month_number.Reads.Post
+month_number_unique κs a x y s t p q = p ∙ sym q
 
-pub leap-mark-unique : OneReply own.kinds.leap_mark.Kinds.ps own.kinds.leap_mark.Kinds.r own.kinds.leap_mark.Reads.Post
-leap-mark-unique κs a x y s t p q = p ∙ sym q
+pub leap_mark_unique : OneReply own.kinds.leap_mark.Kinds.ps own.kinds.leap_mark.Kinds.r own.kinds.leap_mark.Reads.Post
+leap_mark_unique κs a x y s t p q = p ∙ sym q
 
-pub head-unique : OneReply own.head.Kinds.ps own.head.Kinds.r own.head.Reads.Post
-head-unique κs a x y s t p q = one_answer x y _ p q
+pub head_unique : OneReply own.head.Kinds.ps own.head.Kinds.r own.head.Reads.Post
+head_unique κs a x y s t p q = one_answer x y _ p q
 
-pub monthMeant : MonthOfDay → Month
-monthMeant m =
+pub month_meant : MonthOfDay → Month
+month_meant m =
     record {
-      kind = kindMeant m.kind;
+      kind = kind_meant m.kind;
       year = m.year;
       place = m.place;
       day = m.day;
@@ -45,33 +45,33 @@ monthMeant m =
       length = m.length;
     }
 
-pub month-back : (m : Month) → monthMeant (monthSaid m) ≡ m
-unfolding monthMeant
-month-back m = rw (kind-back m.kind)
+pub month_back : (m : Month) → month_meant (month_said m) ≡ m
+unfolding month_meant
+month_back m = rw (kind_back m.kind)
 
-pub answerMeant : Reply MonthOfDay → MonthAnswer
-answerMeant (answer m) = InMonth (monthMeant m)
-answerMeant (refused k) = Refused k
+pub answer_meant : Reply MonthOfDay → MonthAnswer
+answer_meant (answer m) = InMonth (month_meant m)
+answer_meant (refused k) = Refused k
 
-pub answer_back : (r : MonthAnswer) → answerMeant (monthAnswerSaid r) ≡ r
-unfolding answerMeant
-answer_back (InMonth m) = rw (month-back m)
+pub answer_back : (r : MonthAnswer) → answer_meant (month_answer_said r) ≡ r
+unfolding answer_meant
+answer_back (InMonth m) = rw (month_back m)
 answer_back (Refused k) = refl
 
-pub month-of-unique : OneReply own.month_of.Kinds.ps own.month_of.Kinds.r own.month_of.Reads.Post
-month-of-unique κs a x y s t p q = read_back monthAnswerSaid answerMeant answer_back x y _ p q
+pub month_of_unique : OneReply own.month_of.Kinds.ps own.month_of.Kinds.r own.month_of.Reads.Post
+month_of_unique κs a x y s t p q = read_back month_answer_said answer_meant answer_back x y _ p q
 
-pub last-term-unique : OneReply own.last_term.Kinds.ps own.last_term.Kinds.r own.last_term.Reads.Post
-last-term-unique κs a x y s t p q = last-before (calendar shoushi) shoushi-lawful _ x y p q
+pub last_term_unique : OneReply own.last_term.Kinds.ps own.last_term.Kinds.r own.last_term.Reads.Post
+last_term_unique κs a x y s t p q = last_before (calendar shoushi) shoushi_lawful _ x y p q
 
-pub head-of-unique : OneReply own.head_of.Kinds.ps own.head_of.Kinds.r own.head_of.Reads.Post
-head-of-unique κs a x y s t p q = p ∙ sym q
+pub head_of_unique : OneReply own.head_of.Kinds.ps own.head_of.Kinds.r own.head_of.Reads.Post
+head_of_unique κs a x y s t p q = p ∙ sym q
 
-pub head-span-unique : OneReply own.head_span.Kinds.ps own.head_span.Kinds.r own.head_span.Reads.Post
-head-span-unique κs a x y s t p q = p ∙ sym q
+pub head_span_unique : OneReply own.head_span.Kinds.ps own.head_span.Kinds.r own.head_span.Reads.Post
+head_span_unique κs a x y s t p q = p ∙ sym q
 
-pub kind-by-unique : OneReply own.kind_by.Kinds.ps own.kind_by.Kinds.r own.kind_by.Reads.Post
-kind-by-unique κs a x y s t p q = read_back kindSaid kindMeant kind-back x y _ p q
+pub kind_by_unique : OneReply own.kind_by.Kinds.ps own.kind_by.Kinds.r own.kind_by.Reads.Post
+kind_by_unique κs a x y s t p q = read_back kind_said kind_meant kind_back x y _ p q
 
-pub day-at-unique : OneReply own.dates.day_at.Kinds.ps own.dates.day_at.Kinds.r own.dates.day_at.Reads.Post
-day-at-unique κs a x y s t p q = one_answer x y _ p q
+pub day_at_unique : OneReply own.dates.day_at.Kinds.ps own.dates.day_at.Kinds.r own.dates.day_at.Reads.Post
+day_at_unique κs a x y s t p q = one_answer x y _ p q

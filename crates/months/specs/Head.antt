@@ -2,12 +2,12 @@
 -- Assumes nothing.
 use Rattle.std.specs.Prelude.{ℕ}
 use Rattle.rows.specs.Choice.{◌<?◌}
-use Rattle.rows.specs.Reply.{Reply, answer, noYear, refuseIf}
-use Rattle.measure.specs.Units.{lastYear}
+use Rattle.rows.specs.Reply.{Reply, answer, no_year, refuse_if}
+use Rattle.measure.specs.Units.{last_year}
 use Rattle.measure.specs.Epoch.{Epoch}
 use Rattle.month_law.specs.Calendar.{head}
 use Rattle.edition.specs.Edition.{calendar}
 
 -- the lunation that heads year n
-unfoldable pub headReply : Epoch → ℕ → Reply ℕ
-headReply e n = refuseIf (lastYear <? n) noYear (answer (head (calendar e) n))
+unfoldable pub head_reply : Epoch → ℕ → Reply ℕ
+head_reply e n = refuse_if (last_year <? n) no_year (answer (head (calendar e) n))

@@ -10,15 +10,15 @@ pub data Kind : Type 0 where
   leap : ℕ → Kind
 
 -- the paper's kind that each case stands for
-abbrev pub kindSaid : KindCase → Kind
-kindSaid (Ordinary n) = ordinary n
-kindSaid (Leap n) = leap n
+abbrev pub kind_said : KindCase → Kind
+kind_said (Ordinary n) = ordinary n
+kind_said (Leap n) = leap n
 
 -- the number and the leap mark of each
 abbrev pub number_in : Kind → ℕ
 number_in (ordinary n) = n
 number_in (leap n) = n
 
-abbrev pub markIn : Kind → ℕ
-markIn (ordinary n) = 0
-markIn (leap n) = 1
+abbrev pub mark_in : Kind → ℕ
+mark_in (ordinary n) = 0
+mark_in (leap n) = 1

@@ -2,11 +2,11 @@
 -- Assumes nothing.
 use Rattle.std.specs.Prelude.{ℕ, ◌+◌, ◌-◌}
 use Rattle.rows.specs.Choice.{if◌then◌else◌, ◌<?◌}
-use Rattle.rows.specs.Reply.{Reply, answer, refused, noDay, refuseIf}
+use Rattle.rows.specs.Reply.{Reply, answer, refused, no_day, refuse_if}
 use Rattle.measure.specs.Epoch.{Epoch}
-use Rattle.month_law.specs.Calendar.{Calendar, length_of, monthOf, head, yearOf, leapAt, number_at}
+use Rattle.month_law.specs.Calendar.{Calendar, length_of, month_of, head, year_of, leap_at, number_at}
 use Rattle.edition.specs.Edition.{calendar}
-use Rattle.months.specs.Kind.{Kind, ordinary, leap, kindSaid}
+use Rattle.months.specs.Kind.{Kind, ordinary, leap, kind_said}
 use Rattle.months.specs.declared.Month.{Month}
 use Rattle.months.specs.declared.MonthAnswer.{MonthAnswer}
 use Rattle.months.specs.declared.MonthAnswer.TheVariants.{Month as InMonth, Refused}
@@ -29,7 +29,7 @@ latest = 365_268
 
 module _ (c : Calendar) where
   unfoldable pub kind_at : ℕ → ℕ → Kind
-  kind_at n p = if leapAt c n p then leap (number_at c n p) else ordinary (number_at c n p)
+  kind_at n p = if leap_at c n p then leap (number_at c n p) else ordinary (number_at c n p)
 
   -- day d of month l, which stands at place p of year n
   unfoldable pub placed : ℕ → ℕ → ℕ → ℕ → MonthOfDay
@@ -44,20 +44,20 @@ module _ (c : Calendar) where
       }
 
   -- the month of day d: the month that holds the day is sought, and then the year in whose list that month stands
-  unfoldable pub monthOfDay : ℕ → MonthOfDay
-  monthOfDay d =
-      let l = monthOf c d in
-      let n = yearOf c l in
+  unfoldable pub month_of_day : ℕ → MonthOfDay
+  month_of_day d =
+      let l = month_of c d in
+      let n = year_of c l in
       placed d l n (l - head c n)
 
-unfoldable pub dayReply : Epoch → ℕ → Reply MonthOfDay
-dayReply e d = refuseIf (d <? earliest) noDay (refuseIf (latest <? d) noDay (answer (monthOfDay (calendar e) d)))
+unfoldable pub day_reply : Epoch → ℕ → Reply MonthOfDay
+day_reply e d = refuse_if (d <? earliest) no_day (refuse_if (latest <? d) no_day (answer (month_of_day (calendar e) d)))
 
 -- the paper's month and reply that each case stands for
-abbrev pub monthSaid : Month → MonthOfDay
-monthSaid m =
+abbrev pub month_said : Month → MonthOfDay
+month_said m =
     record {
-      kind = kindSaid m.kind;
+      kind = kind_said m.kind;
       year = m.year;
       place = m.place;
       day = m.day;
@@ -65,6 +65,6 @@ monthSaid m =
       length = m.length;
     }
 
-abbrev pub monthAnswerSaid : MonthAnswer → Reply MonthOfDay
-monthAnswerSaid (InMonth m) = answer (monthSaid m)
-monthAnswerSaid (Refused k) = refused k
+abbrev pub month_answer_said : MonthAnswer → Reply MonthOfDay
+month_answer_said (InMonth m) = answer (month_said m)
+month_answer_said (Refused k) = refused k

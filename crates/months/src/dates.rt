@@ -1,9 +1,9 @@
 // The way back: from a year, a place in its list and a day of that month to the running day.
 ghost use Rattle.std.specs.Prelude.{◌≡◌};
-ghost use Rattle.rows.specs.Reply.{answerSaid};
+ghost use Rattle.rows.specs.Reply.{answer_said};
 ghost use Rattle.measure.specs.Epoch.{shoushi};
-ghost use Rattle.months.specs.Month.{monthAnswerSaid};
-ghost use Rattle.months.specs.Date.{backReply, hasDate};
+ghost use Rattle.months.specs.Month.{month_answer_said};
+ghost use Rattle.months.specs.Date.{back_reply, has_date};
 
 use crate::{MonthAnswer, head_of, month_of};
 use edition::first_day;
@@ -17,7 +17,7 @@ const MOST_DAYS: u64 = 30;
 // The running day of day m of the month at place p of year n. After the year, a place that its list does not have, or a
 // day that the month does not have, is refused with 2. The day that these would give must be found again under them.
 pub fn day_at(n: u64, p: u64, m: u64) -> Answer
-    ensures { answerSaid result ≡ backReply shoushi n p m }
+    ensures { answer_said result ≡ back_reply shoushi n p m }
 {
     if LAST_YEAR < n {
         return Answer::Refused(NO_YEAR);
@@ -41,7 +41,7 @@ pub fn day_at(n: u64, p: u64, m: u64) -> Answer
 
 // Whether a reply about a day gives it this year, place and day of the month.
 fn has_date(reply: MonthAnswer, n: u64, p: u64, m: u64) -> bool
-    ensures { result ≡ hasDate (monthAnswerSaid reply) n p m }
+    ensures { result ≡ has_date (month_answer_said reply) n p m }
 {
     let MonthAnswer::Month(month) = reply else {
         return false;

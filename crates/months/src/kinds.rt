@@ -1,6 +1,6 @@
 // The kind of a month, its number and its leap mark.
 ghost use Rattle.std.specs.Prelude.{◌≡◌};
-ghost use Rattle.months.specs.Kind.{kindSaid, number_in, markIn};
+ghost use Rattle.months.specs.Kind.{kind_said, number_in, mark_in};
 
 // A month is ordinary or leap, with its number inside.
 #[derive(Drop)]
@@ -11,7 +11,7 @@ pub enum Kind {
 
 // The number of a month, ordinary or leap.
 pub fn month_number(kind: Kind) -> u64
-    ensures { result ≡ number_in (kindSaid kind) }
+    ensures { result ≡ number_in (kind_said kind) }
 {
     match kind {
         Kind::Ordinary(number) => number,
@@ -21,7 +21,7 @@ pub fn month_number(kind: Kind) -> u64
 
 // A month's leap mark: 1 where it is leap, else 0.
 pub fn leap_mark(kind: Kind) -> u64
-    ensures { result ≡ markIn (kindSaid kind) }
+    ensures { result ≡ mark_in (kind_said kind) }
 {
     match kind {
         Kind::Ordinary(_) => 0,

@@ -3,15 +3,15 @@ pub mod dates;
 pub mod kinds;
 
 ghost use Rattle.std.specs.Prelude.{◌≡◌, suc, ◌+◌, ◌-◌, ◌*◌, ◌/◌, ◌≤◌, ◌<◌};
-ghost use Rattle.rows.specs.Reply.{answerSaid};
-ghost use Rattle.measure.specs.Units.{lastYear};
+ghost use Rattle.rows.specs.Reply.{answer_said};
+ghost use Rattle.measure.specs.Units.{last_year};
 ghost use Rattle.measure.specs.Epoch.{shoushi};
-ghost use Rattle.month_law.specs.Calendar.{monthOf, head};
-ghost use Rattle.edition.specs.Edition.{middleDay, calendar};
-ghost use Rattle.months.specs.Head.{headReply};
-ghost use Rattle.months.specs.Kind.{kindSaid};
-ghost use Rattle.months.specs.Month.{earliest, latest, monthOfDay, dayReply, monthSaid, monthAnswerSaid};
-ghost use Rattle.months.specs.Span.{span_of, kindBy, LastBefore};
+ghost use Rattle.month_law.specs.Calendar.{month_of, head};
+ghost use Rattle.edition.specs.Edition.{middle_day, calendar};
+ghost use Rattle.months.specs.Head.{head_reply};
+ghost use Rattle.months.specs.Kind.{kind_said};
+ghost use Rattle.months.specs.Month.{earliest, latest, month_of_day, day_reply, month_said, month_answer_said};
+ghost use Rattle.months.specs.Span.{span_of, kind_by, LastBefore};
 
 use crate::kinds::Kind;
 use edition::{MIDDLE_STEP, first_day, middle_day};
@@ -42,7 +42,7 @@ const LATEST: u64 = 365_268;
 
 // The lunation that heads year n. A year past the last is refused with 1.
 pub fn head(n: u64) -> Answer
-    ensures { answerSaid result ≡ headReply shoushi n }
+    ensures { answer_said result ≡ head_reply shoushi n }
 {
     if LAST_YEAR < n {
         return Answer::Refused(NO_YEAR);
@@ -52,7 +52,7 @@ pub fn head(n: u64) -> Answer
 
 // The month in which a day lies. A day outside the calendar is refused with 3.
 pub fn month_of(d: u64) -> MonthAnswer
-    ensures { monthAnswerSaid result ≡ dayReply shoushi d }
+    ensures { month_answer_said result ≡ day_reply shoushi d }
 {
     if d < EARLIEST {
         return MonthAnswer::Refused(NO_DAY);
@@ -75,7 +75,7 @@ pub struct Span {
 // day is the month's, or the one before or after it.
 fn span_of(d: u64) -> Span
     requires { (earliest ≤ d) × (d ≤ latest + 30) }
-    ensures { result ≡ span_of (calendar shoushi) (monthOf (calendar shoushi) d) }
+    ensures { result ≡ span_of (calendar shoushi) (month_of (calendar shoushi) d) }
 {
     let mean = (d * DAY - MEAN_START) / MONTH;
     let first = first_day(mean);
@@ -103,7 +103,7 @@ fn span_of(d: u64) -> Span
 
 // The last middle term before a day.
 pub fn last_term(next: u64) -> u64
-    requires { (middleDay shoushi 0 < next) × (next ≤ latest + 60) }
+    requires { (middle_day shoushi 0 < next) × (next ≤ latest + 60) }
     ensures { LastBefore (calendar shoushi) next result }
 {
     (next * DAY - 1 - SOLSTICE_EPOCH) / MIDDLE_STEP
@@ -111,7 +111,7 @@ pub fn last_term(next: u64) -> u64
 
 // The lunation that heads year n.
 pub fn head_of(n: u64) -> u64
-    requires { n ≤ suc lastYear }
+    requires { n ≤ suc last_year }
     ensures { result ≡ head (calendar shoushi) n }
 {
     let head = head_span(n);
@@ -120,7 +120,7 @@ pub fn head_of(n: u64) -> u64
 
 // The head of year n with its days.
 pub fn head_span(n: u64) -> Span
-    requires { n ≤ suc lastYear }
+    requires { n ≤ suc last_year }
     ensures { result ≡ span_of (calendar shoushi) (head (calendar shoushi) n) }
 {
     span_of(middle_day(12 * n))
@@ -129,8 +129,8 @@ pub fn head_span(n: u64) -> Span
 // A month by the day on which it begins and the last middle term before its end: it has that term's number, and is leap where that
 // term lies before it.
 pub fn kind_by(first: u64, last: u64) -> Kind
-    requires { last ≤ 12 * lastYear + 24 }
-    ensures { kindSaid result ≡ kindBy (calendar shoushi) first last }
+    requires { last ≤ 12 * last_year + 24 }
+    ensures { kind_said result ≡ kind_by (calendar shoushi) first last }
 {
     let number = (last + 10) % 12 + 1;
     if middle_day(last) < first {
@@ -142,8 +142,8 @@ pub fn kind_by(first: u64, last: u64) -> Kind
 
 // The month of a span, with a day in it.
 fn month_in(span: Span, d: u64) -> Month
-    requires { (earliest ≤ d) × (d ≤ latest) × (span ≡ span_of (calendar shoushi) (monthOf (calendar shoushi) d)) }
-    ensures { monthSaid result ≡ monthOfDay (calendar shoushi) d }
+    requires { (earliest ≤ d) × (d ≤ latest) × (span ≡ span_of (calendar shoushi) (month_of (calendar shoushi) d)) }
+    ensures { month_said result ≡ month_of_day (calendar shoushi) d }
 {
     let first = span.first;
     let next = span.next;

@@ -11,51 +11,51 @@ use mir.Val.{SFits, to_z, of_z}
 use mir.Facts.{to_z-of_z}
 use Rattle.measure.specs.Epoch.{shoushi}
 use Rattle.signed.specs.Signed.{minus, integer}
-use Rattle.signed.proofs.Integers.{integer-minus, integer-mag, opposite-mag, held}
+use Rattle.signed.proofs.Integers.{integer_minus, integer_mag, opposite_mag, held}
 use Rattle.inequalities.specs.Solar.{solar}
 use Rattle.inequalities.specs.Lunar.{lunar}
 use Rattle.inequalities.specs.Motion.{motion}
-use Rattle.inequalities.proofs.MotionAt.{motion-most}
+use Rattle.inequalities.proofs.MotionAt.{motion_most}
 use Rattle.moons.specs.Lunation.{Counted, mean}
-use Rattle.moons.specs.TrueMoon.{correctionFactor, correction, correctionOf, moved, trueMoon}
-use Rattle.moons.proofs.Times.{mean-most}
-use Rattle.moons.proofs.Corrected.{difference, integer-correction, differenceSize, difference-size, correction-size, correction-of-size, integer-true}
+use Rattle.moons.specs.TrueMoon.{correction_factor, correction, correction_of, moved, true_moon}
+use Rattle.moons.proofs.Times.{mean_most}
+use Rattle.moons.proofs.Corrected.{difference, integer_correction, difference_size, difference_size_lem, correction_size_lem, correction_of_size, integer_true}
 
 -- ---- what fits
-mag-mul : (z : ℤ) (k : ℕ) → mag (z *ℤ pos k) ≤ (mag z + 1) * k
-mag-mul (pos n) k = omega arith
-mag-mul (negsuc n) k = le_trans (opposite-mag (suc n * k)) (omega arith)
+mag_mul : (z : ℤ) (k : ℕ) → mag (z *ℤ pos k) ≤ (mag z + 1) * k
+mag_mul (pos n) k = omega arith
+mag_mul (negsuc n) k = le_trans (opposite_mag (suc n * k)) (omega arith)
 
-difference-mag : (s a : ℕ) → mag (difference s a) ≤ differenceSize
+difference_mag : (s a : ℕ) → mag (difference s a) ≤ difference_size
 unfolding difference
-difference-mag s a =
-    rw (sym (integer-minus (solar s) (lunar a)))
-    (le_trans (integer-mag (minus (solar s) (lunar a))) (difference-size s a))
+difference_mag s a =
+    rw (sym (integer_minus (solar s) (lunar a)))
+    (le_trans (integer_mag (minus (solar s) (lunar a))) (difference_size_lem s a))
 
-pub difference-fits : (s a : ℕ) → SFits w64 (difference s a)
-difference-fits s a = record { sfits = omega (arith, difference-mag s a) }
+pub difference_fits : (s a : ℕ) → SFits w64 (difference s a)
+difference_fits s a = record { sfits = omega (arith, difference_mag s a) }
 
-pub product-fits : (s a : ℕ) → SFits w64 (difference s a *ℤ pos correctionFactor)
-product-fits s a =
-    record { sfits = omega (arith, difference-mag s a, mag-mul (difference s a) correctionFactor) }
+pub product_fits : (s a : ℕ) → SFits w64 (difference s a *ℤ pos correction_factor)
+product_fits s a =
+    record { sfits = omega (arith, difference_mag s a, mag_mul (difference s a) correction_factor) }
 
-pub correction-fits : (s a : ℕ) → SFits w64 (integer (correction s a))
-correction-fits s a =
-    record { sfits = omega (arith, integer-mag (correction s a), correction-size s a) }
+pub correction_fits : (s a : ℕ) → SFits w64 (integer (correction s a))
+correction_fits s a =
+    record { sfits = omega (arith, integer_mag (correction s a), correction_size_lem s a) }
 
-pub motion-fits : (a : ℕ) → SFits w64 (pos (motion a))
-motion-fits a = record { sfits = omega (arith, motion-most a) }
+pub motion_fits : (a : ℕ) → SFits w64 (pos (motion a))
+motion_fits a = record { sfits = omega (arith, motion_most a) }
 
 module _ (l q : ℕ) (h : Counted l q) where
-  pub mean-fits : SFits w64 (pos (mean shoushi l q))
-  mean-fits = record { sfits = omega (arith, mean-most l q h) }
+  pub mean_fits : SFits w64 (pos (mean shoushi l q))
+  mean_fits = record { sfits = omega (arith, mean_most l q h) }
 
-  pub true-fits : SFits w64 (pos (trueMoon shoushi l q))
-  unfolding trueMoon moved
-  true-fits = record { sfits = omega (arith, mean-most l q h, correction-of-size l q) }
+  pub true_fits : SFits w64 (pos (true_moon shoushi l q))
+  unfolding true_moon moved
+  true_fits = record { sfits = omega (arith, mean_most l q h, correction_of_size l q) }
 
-pub fits-as : {z w : ℤ} → z ≡ w → SFits w64 w → SFits w64 z
-fits-as e f = subst (SFits w64) (sym e) f
+pub fits_as : {z w : ℤ} → z ≡ w → SFits w64 w → SFits w64 z
+fits_as e f = subst (SFits w64) (sym e) f
 
 -- ---- what is read where z was written
 abbrev pub read : ℤ → ℤ
@@ -65,27 +65,27 @@ read_as : {z w : ℤ} → z ≡ w → SFits w64 w → read z ≡ w
 read_as e f = ap read e ∙ to_z-of_z f
 
 module _ (s a : ℕ) (x y : ℤ) (sun : x ≡ integer (solar s)) (moon : y ≡ integer (lunar a))
-    (x_Fits : mag x < 2 ^ 63) (y-fits : mag y < 2 ^ 63) where
-  pub difference-read : read x -ℤ read y ≡ difference s a
+    (x_Fits : mag x < 2 ^ 63) (y_fits : mag y < 2 ^ 63) where
+  pub difference_read : read x -ℤ read y ≡ difference s a
   unfolding difference
-  difference-read = rw (held x x_Fits, held y y-fits, sun, moon)
+  difference_read = rw (held x x_Fits, held y y_fits, sun, moon)
 
-  pub product-read : read (read x -ℤ read y) *ℤ pos correctionFactor ≡ difference s a *ℤ pos correctionFactor
-  product-read = ap (λ (z : ℤ). z *ℤ pos correctionFactor) (read_as difference-read (difference-fits s a))
+  pub product_read : read (read x -ℤ read y) *ℤ pos correction_factor ≡ difference s a *ℤ pos correction_factor
+  product_read = ap (λ (z : ℤ). z *ℤ pos correction_factor) (read_as difference_read (difference_fits s a))
 
   module _ (m : ℕ) (rate : m ≡ motion a) where
-    pub quotient-read : quot_z (read (read (read x -ℤ read y) *ℤ pos correctionFactor)) (to_z w64 m) ≡ integer (correction s a)
-    quotient-read =
-        rw (read_as product-read (product-fits s a), rate, to_z-of_z (motion-fits a)) (integer-correction s a)
+    pub quotient_read : quot_z (read (read (read x -ℤ read y) *ℤ pos correction_factor)) (to_z w64 m) ≡ integer (correction s a)
+    quotient_read =
+        rw (read_as product_read (product_fits s a), rate, to_z-of_z (motion_fits a)) (integer_correction s a)
 
-    pub correction-read : read (quot_z (read (read (read x -ℤ read y) *ℤ pos correctionFactor)) (to_z w64 m))
+    pub correction_read : read (quot_z (read (read (read x -ℤ read y) *ℤ pos correction_factor)) (to_z w64 m))
         ≡ integer (correction s a)
-    correction-read = read_as quotient-read (correction-fits s a)
+    correction_read = read_as quotient_read (correction_fits s a)
 
 module _ (l q : ℕ) (h : Counted l q) (t : ℕ) (z : ℤ)
-    (at : t ≡ mean shoushi l q) (by : z ≡ integer (correctionOf shoushi l q)) (z-fits : mag z < 2 ^ 63) where
-  pub sum-read : to_z w64 t +ℤ read z ≡ pos (trueMoon shoushi l q)
-  sum-read = rw (held z z-fits, at, by, to_z-of_z (mean-fits l q h)) (integer-true l q)
+    (at : t ≡ mean shoushi l q) (by : z ≡ integer (correction_of shoushi l q)) (z_fits : mag z < 2 ^ 63) where
+  pub sum_read : to_z w64 t +ℤ read z ≡ pos (true_moon shoushi l q)
+  sum_read = rw (held z z_fits, at, by, to_z-of_z (mean_fits l q h)) (integer_true l q)
 
-  pub true-read : read (to_z w64 t +ℤ read z) ≡ pos (trueMoon shoushi l q)
-  true-read = read_as sum-read (true-fits l q h)
+  pub true_read : read (to_z w64 t +ℤ read z) ≡ pos (true_moon shoushi l q)
+  true_read = read_as sum_read (true_fits l q h)

@@ -3,21 +3,21 @@
 use mathlib.Core.Path.{◌≡◌}
 use Rattle.measure.specs.Epoch.{shoushi}
 use Rattle.inequalities.proofs.Figures.{figures}
-use Rattle.moons.specs.Lunation.{mean, solarTime, anomaly}
-use Rattle.moons.specs.TrueMoon.{corrected, correction, correctionOf, moved, trueMoon}
+use Rattle.moons.specs.Lunation.{mean, solar_time, anomaly}
+use Rattle.moons.specs.TrueMoon.{corrected, correction, correction_of, moved, true_moon}
 
 pub record TrueMoons : Type 0 where
-  pub moon-0 : trueMoon shoushi 0 0 ≡ 3_521_069_168
-  pub moon-1 : trueMoon shoushi 1 0 ≡ 6_479_957_652
-  pub moon-12368 : trueMoon shoushi 12_368 0 ≡ 36_526_953_774_962
-  pub moon-12369 : trueMoon shoushi 12_369 0 ≡ 36_529_919_168_231
+  pub moon_0 : true_moon shoushi 0 0 ≡ 3_521_069_168
+  pub moon_1 : true_moon shoushi 1 0 ≡ 6_479_957_652
+  pub moon_12368 : true_moon shoushi 12_368 0 ≡ 36_526_953_774_962
+  pub moon_12369 : true_moon shoushi 12_369 0 ≡ 36_529_919_168_231
 
-pub true-moons : TrueMoons
-unfolding trueMoon moved mean correctionOf correction corrected solarTime anomaly
-true-moons =
+pub true_moons : TrueMoons
+unfolding true_moon moved mean correction_of correction corrected solar_time anomaly
+true_moons =
     record {
-      moon-0 = rw (figures.0.0, figures.0.1, figures.0.2);
-      moon-1 = rw (figures.1.0, figures.1.1, figures.1.2);
-      moon-12368 = rw (figures.2.0, figures.2.1, figures.2.2);
-      moon-12369 = rw (figures.3.0, figures.3.1, figures.3.2);
+      moon_0 = rw (figures.0.0, figures.0.1, figures.0.2);
+      moon_1 = rw (figures.1.0, figures.1.1, figures.1.2);
+      moon_12368 = rw (figures.2.0, figures.2.1, figures.2.2);
+      moon_12369 = rw (figures.3.0, figures.3.1, figures.3.2);
     }

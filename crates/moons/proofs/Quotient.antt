@@ -5,30 +5,30 @@ use Prim.Native.Nat.{ℕ, ◌+◌, ◌*◌, ◌-◌, ◌/◌, ◌≤◌, ◌<◌
 use native.Mathlib.Nat.{mul-le-mul_left, div-mul-le_self, lt-div-mul-add, div-lt_iff_lt-mul}
 use native.Mathlib.Omega.{arith}
 use Rattle.signed.specs.Signed.{Signed}
-use Rattle.inequalities.proofs.MotionRows.{leastMotion}
-use Rattle.moons.specs.TrueMoon.{correctionFactor, corrected}
+use Rattle.inequalities.proofs.MotionRows.{least_motion}
+use Rattle.moons.specs.TrueMoon.{correction_factor, corrected}
 
 pub quotient : ℕ → ℕ → ℕ
-quotient x m = x * correctionFactor / m
+quotient x m = x * correction_factor / m
 
-module _ (x m : ℕ) (h : leastMotion ≤ m) where
-  pub quotient-above : x * correctionFactor < quotient x m * m + m
+module _ (x m : ℕ) (h : least_motion ≤ m) where
+  pub quotient_above : x * correction_factor < quotient x m * m + m
   unfolding quotient
-  quotient-above = lt-div-mul-add {a = x * correctionFactor} {b = m} (omega arith)
+  quotient_above = lt-div-mul-add {a = x * correction_factor} {b = m} (omega arith)
 
-  pub quotient-below : (q : ℕ) → x * correctionFactor < q * m → quotient x m < q
+  pub quotient_below : (q : ℕ) → x * correction_factor < q * m → quotient x m < q
   unfolding quotient
-  quotient-below q l = (div-lt_iff_lt-mul {k = m} {x = x * correctionFactor} {y = q} (omega arith)).1 l
+  quotient_below q l = (div-lt_iff_lt-mul {k = m} {x = x * correction_factor} {y = q} (omega arith)).1 l
 
   -- no more than a quotient by the least motion
-  pub quotient-least : quotient x m * leastMotion ≤ x * correctionFactor
+  pub quotient_least : quotient x m * least_motion ≤ x * correction_factor
   unfolding quotient
-  quotient-least = omega (arith, div-mul-le_self (x * correctionFactor) m, mul-le-mul_left (quotient x m) h)
+  quotient_least = omega (arith, div-mul-le_self (x * correction_factor) m, mul-le-mul_left (quotient x m) h)
 
 pub record Quotients (z c : Signed) (m : ℕ) : Type 0 where
-  pub ahead-is : c.ahead ≡ quotient (z.ahead - z.behind) m
-  pub behind-is : c.behind ≡ quotient (z.behind - z.ahead) m
+  pub ahead_is : c.ahead ≡ quotient (z.ahead - z.behind) m
+  pub behind_is : c.behind ≡ quotient (z.behind - z.ahead) m
 
-pub corrected-is : (z : Signed) (m : ℕ) → Quotients z (corrected z m) m
+pub corrected_is : (z : Signed) (m : ℕ) → Quotients z (corrected z m) m
 unfolding corrected quotient
-corrected-is z m = record { ahead-is = refl; behind-is = refl }
+corrected_is z m = record { ahead_is = refl; behind_is = refl }

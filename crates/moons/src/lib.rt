@@ -1,12 +1,12 @@
 // Mean and true moons: a lunation and its quarter, with both inequalities and the correction.
 ghost use Rattle.std.specs.Prelude.{◌||◌, ◌≡◌, ◌<◌};
 ghost use Rattle.rows.specs.Choice.{◌<?◌};
-ghost use Rattle.rows.specs.Reply.{answerSaid};
-ghost use Rattle.measure.specs.Units.{year, anomalisticMonth};
+ghost use Rattle.rows.specs.Reply.{answer_said};
+ghost use Rattle.measure.specs.Units.{year, anomalistic_month};
 ghost use Rattle.measure.specs.Epoch.{shoushi};
-ghost use Rattle.signed.specs.Signed.{integer, asInteger, signedSaid};
-ghost use Rattle.moons.specs.Lunation.{lastLunation, lastQuarter, Counted, mean, meanReply, solarTime, anomaly};
-ghost use Rattle.moons.specs.TrueMoon.{correction, correctionOf, trueMoon, solarReply, lunarReply, motionReply, correctionReply, trueReply};
+ghost use Rattle.signed.specs.Signed.{integer, as_integer, signed_said};
+ghost use Rattle.moons.specs.Lunation.{last_lunation, last_quarter, Counted, mean, mean_reply, solar_time, anomaly};
+ghost use Rattle.moons.specs.TrueMoon.{correction, correction_of, true_moon, solar_reply, lunar_reply, motion_reply, correction_reply, true_reply};
 
 use measure::{
     ANOMALISTIC_MONTH, ANOMALY_EPOCH, HALF_YEAR, LEAP_EPOCH, MONTH, QUARTER_STEP, SOLSTICE_EPOCH,
@@ -23,7 +23,7 @@ const LAST_QUARTER: u64 = 3;
 
 // The mean moon's running time.
 pub fn mean(l: u64, q: u64) -> Answer
-    ensures { answerSaid result ≡ meanReply shoushi l q }
+    ensures { answer_said result ≡ mean_reply shoushi l q }
 {
     if outside(l, q) {
         return Answer::Refused(OUTSIDE);
@@ -33,7 +33,7 @@ pub fn mean(l: u64, q: u64) -> Answer
 
 // The solar inequality.
 pub fn solar(l: u64, q: u64) -> SignedAnswer
-    ensures { signedSaid result ≡ asInteger (solarReply shoushi l q) }
+    ensures { signed_said result ≡ as_integer (solar_reply shoushi l q) }
 {
     if outside(l, q) {
         return SignedAnswer::Refused(OUTSIDE);
@@ -43,7 +43,7 @@ pub fn solar(l: u64, q: u64) -> SignedAnswer
 
 // The lunar inequality.
 pub fn lunar(l: u64, q: u64) -> SignedAnswer
-    ensures { signedSaid result ≡ asInteger (lunarReply shoushi l q) }
+    ensures { signed_said result ≡ as_integer (lunar_reply shoushi l q) }
 {
     if outside(l, q) {
         return SignedAnswer::Refused(OUTSIDE);
@@ -53,7 +53,7 @@ pub fn lunar(l: u64, q: u64) -> SignedAnswer
 
 // The moon's motion.
 pub fn motion(l: u64, q: u64) -> Answer
-    ensures { answerSaid result ≡ motionReply shoushi l q }
+    ensures { answer_said result ≡ motion_reply shoushi l q }
 {
     if outside(l, q) {
         return Answer::Refused(OUTSIDE);
@@ -63,7 +63,7 @@ pub fn motion(l: u64, q: u64) -> Answer
 
 // The correction.
 pub fn correction(l: u64, q: u64) -> SignedAnswer
-    ensures { signedSaid result ≡ asInteger (correctionReply shoushi l q) }
+    ensures { signed_said result ≡ as_integer (correction_reply shoushi l q) }
 {
     if outside(l, q) {
         return SignedAnswer::Refused(OUTSIDE);
@@ -73,7 +73,7 @@ pub fn correction(l: u64, q: u64) -> SignedAnswer
 
 // The true moon's running time.
 pub fn true_moon(l: u64, q: u64) -> Answer
-    ensures { answerSaid result ≡ trueReply shoushi l q }
+    ensures { answer_said result ≡ true_reply shoushi l q }
 {
     if outside(l, q) {
         return Answer::Refused(OUTSIDE);
@@ -84,14 +84,14 @@ pub fn true_moon(l: u64, q: u64) -> Answer
 // The true moon's running time, for a caller that counts lunations itself. No question of the calendar's.
 pub fn true_time(l: u64, q: u64) -> u64
     requires { Counted l q }
-    ensures { result ≡ trueMoon shoushi l q }
+    ensures { result ≡ true_moon shoushi l q }
 {
     (mean_time(l, q) as i64 + correction_of(l, q)) as u64
 }
 
 // Whether the lunation or the quarter is past its last.
 fn outside(l: u64, q: u64) -> bool
-    ensures { result ≡ ((lastLunation <? l) || (lastQuarter <? q)) }
+    ensures { result ≡ ((last_lunation <? l) || (last_quarter <? q)) }
 {
     LAST_LUNATION < l || LAST_QUARTER < q
 }
@@ -112,7 +112,7 @@ const SOLAR_START: u64 = HALF_YEAR - LEAP_EPOCH;
 // The time in the solar year, which the slow half begins.
 fn solar_time(l: u64, q: u64) -> u64
     requires { Counted l q }
-    ensures { result ≡ solarTime shoushi l q }
+    ensures { result ≡ solar_time shoushi l q }
 {
     (SOLAR_START + l * MONTH + q * QUARTER_STEP) % YEAR
 }
@@ -132,7 +132,7 @@ fn anomaly(l: u64, q: u64) -> u64
 // The correction of a quarter.
 fn correction_of(l: u64, q: u64) -> i64
     requires { Counted l q }
-    ensures { result ≡ integer (correctionOf shoushi l q) }
+    ensures { result ≡ integer (correction_of shoushi l q) }
 {
     correction_at(solar_time(l, q), anomaly(l, q))
 }
@@ -141,7 +141,7 @@ const CORRECTION_FACTOR: i64 = 8_200_000;
 
 // The correction at a solar time and an anomaly. A quotient of signed numbers drops its rest toward 0.
 fn correction_at(time: u64, anomaly: u64) -> i64
-    requires { (time < year) × (anomaly < anomalisticMonth) }
+    requires { (time < year) × (anomaly < anomalistic_month) }
     ensures { result ≡ integer (correction time anomaly) }
 {
     let ahead = inequalities::solar::solar(time) - inequalities::lunar::lunar(anomaly);

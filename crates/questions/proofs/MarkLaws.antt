@@ -9,169 +9,169 @@ use native.Mathlib.Omega.{arith}
 use borrow.Author.Tests.{eq-eqb, ne_eqb}
 use lib.ListN.{length}
 use Rattle.rows.specs.Choice.{if◌then◌else◌}
-use Rattle.rows.specs.Reply.{Reply, answer, refused, badLine}
-use Rattle.rows.proofs.Choice.{lt-or-ge, passes-or-fails}
+use Rattle.rows.specs.Reply.{Reply, answer, refused, bad_line}
+use Rattle.rows.proofs.Choice.{lt_or_ge, passes_or_fails}
 use Rattle.words.specs.Number.{number_of}
 use Rattle.words.specs.declared.decimals.Number.TheVariants.{Value, Bad}
 use Rattle.words.specs.Text.{◌is◌}
 use Rattle.words.specs.Choice.{chosen}
 use Rattle.words.specs.Numbers.{part_of, rest_of}
-use Rattle.words.proofs.Within.{rest-shorter, rest-no-longer}
+use Rattle.words.proofs.Within.{rest_shorter, rest_no_longer}
 use Rattle.sheets.specs.Marks.{marked}
 use Rattle.sheets.specs.declared.Shown.TheVariants.{Leap}
-use Rattle.sheets.specs.Sheet.{blankSheet, withMark, withMarks}
+use Rattle.sheets.specs.Sheet.{blank_sheet, with_mark, with_marks}
 use Rattle.sheets.specs.declared.Mark.{Mark}
 use Rattle.sheets.specs.declared.Sheet.{Sheet}
-use Rattle.sheets.proofs.OnSheet.{marks-snoc}
-use Rattle.questions.specs.MarkWords.{showing, mark_of, afterMark, marksWithin, marksIn, sheetRead}
+use Rattle.sheets.proofs.OnSheet.{marks_snoc}
+use Rattle.questions.specs.MarkWords.{showing, mark_of, after_mark, marks_within, marks_in, sheet_read}
 use Rattle.questions.specs.declared.marks.SheetRead.{SheetRead}
 use Rattle.questions.specs.declared.marks.MarkRead.{MarkRead}
 use Rattle.questions.specs.declared.marks.MarkRead.TheVariants.{Read, Unread}
 
 -- what follows a mark: it takes a byte at least
 module _ (s : List ℕ) where
-  pub after-leap : (part_of s is "leap") ≡ true → rest_of (rest_of s) ≡ afterMark s
-  unfolding afterMark
-  after-leap e = simp e
+  pub after_leap : (part_of s is "leap") ≡ true → rest_of (rest_of s) ≡ after_mark s
+  unfolding after_mark
+  after_leap e = simp e
 
-  pub after-number : (part_of s is "leap") ≡ false → rest_of (rest_of (rest_of s)) ≡ afterMark s
-  unfolding afterMark
-  after-number e = simp e
+  pub after_number : (part_of s is "leap") ≡ false → rest_of (rest_of (rest_of s)) ≡ after_mark s
+  unfolding after_mark
+  after_number e = simp e
 
-  pub after-shorter : 0 < length s → length (afterMark s) < length s
-  after-shorter h = by (passes-or-fails (part_of s is "leap"))
+  pub after_shorter : 0 < length s → length (after_mark s) < length s
+  after_shorter h = by (passes_or_fails (part_of s is "leap"))
     where
-      by : ((part_of s is "leap") ≡ true) ⊎ ((part_of s is "leap") ≡ false) → length (afterMark s) < length s
-      by (inl e) = omega (arith, ap length (after-leap e), rest-shorter s h, rest-no-longer (rest_of s))
+      by : ((part_of s is "leap") ≡ true) ⊎ ((part_of s is "leap") ≡ false) → length (after_mark s) < length s
+      by (inl e) = omega (arith, ap length (after_leap e), rest_shorter s h, rest_no_longer (rest_of s))
       by (inr e) =
           omega (
             arith,
-            ap length (after-number e),
-            rest-shorter s h,
-            rest-no-longer (rest_of s),
-            rest-no-longer (rest_of (rest_of s)),
+            ap length (after_number e),
+            rest_shorter s h,
+            rest_no_longer (rest_of s),
+            rest_no_longer (rest_of (rest_of s)),
           )
 
 -- the marks of a text that go on from others
-abbrev pub marksAfter : List Mark → List ℕ → Reply (List Mark)
-marksAfter before s = marksWithin (suc (length s)) before s
+abbrev pub marks_after : List Mark → List ℕ → Reply (List Mark)
+marks_after before s = marks_within (suc (length s)) before s
 
 module _ (before : List Mark) (s : List ℕ) where
-  pub none_left : (n : ℕ) → length s ≡ 0 → marksWithin (suc n) before s ≡ answer before
-  unfolding marksWithin
+  pub none_left : (n : ℕ) → length s ≡ 0 → marks_within (suc n) before s ≡ answer before
+  unfolding marks_within
   none_left n e = simp (eq-eqb _ _ e)
 
   -- a text that does not start with a mark
-  pub no-mark : (n : ℕ) → 0 < length s → mark_of s ≡ Unread → marksWithin (suc n) before s ≡ refused badLine
-  unfolding marksWithin
-  no-mark n h e = simp (ne_eqb (length s) 0 (λ z. omega arith), e)
+  pub no_mark : (n : ℕ) → 0 < length s → mark_of s ≡ Unread → marks_within (suc n) before s ≡ refused bad_line
+  unfolding marks_within
+  no_mark n h e = simp (ne_eqb (length s) 0 (λ z. omega arith), e)
 
-  a-mark : (n : ℕ) (m : Mark) → 0 < length s → mark_of s ≡ Read m
-      → marksWithin (suc n) before s ≡ marksWithin n (before ++ (m ∷ [])) (afterMark s)
-  unfolding marksWithin
-  a-mark n m h e = simp (ne_eqb (length s) 0 (λ z. omega arith), e)
+  a_mark : (n : ℕ) (m : Mark) → 0 < length s → mark_of s ≡ Read m
+      → marks_within (suc n) before s ≡ marks_within n (before ++ (m ∷ [])) (after_mark s)
+  unfolding marks_within
+  a_mark n m h e = simp (ne_eqb (length s) 0 (λ z. omega arith), e)
 
 -- how far is counted does not matter, once it is further than the text is long
-enough : (m n : ℕ) (before : List Mark) (s : List ℕ) → length s < m → length s < n → marksWithin m before s ≡ marksWithin n before s
+enough : (m n : ℕ) (before : List Mark) (s : List ℕ) → length s < m → length s < n → marks_within m before s ≡ marks_within n before s
 enough zero n before s g h = absurd (omega arith)
 enough (suc m) zero before s g h = absurd (omega arith)
-enough (suc m) (suc n) before s g h = by (λ b t i j. enough m n b t i j) (lt-or-ge 0 (length s)) (mark_of s) refl
+enough (suc m) (suc n) before s g h = by (λ b t i j. enough m n b t i j) (lt_or_ge 0 (length s)) (mark_of s) refl
   where
-    by : ((b : List Mark) (t : List ℕ) → length t < m → length t < n → marksWithin m b t ≡ marksWithin n b t)
+    by : ((b : List Mark) (t : List ℕ) → length t < m → length t < n → marks_within m b t ≡ marks_within n b t)
         → (0 < length s) ⊎ (length s ≤ 0)
         → (r : MarkRead) → mark_of s ≡ r
-        → marksWithin (suc m) before s ≡ marksWithin (suc n) before s
+        → marks_within (suc m) before s ≡ marks_within (suc n) before s
     by later (inr z) r e =
         let empty : length s ≡ 0 = omega arith in
         none_left before s m empty ∙ sym (none_left before s n empty)
-    by later (inl l) Unread e = no-mark before s m l e ∙ sym (no-mark before s n l e)
+    by later (inl l) Unread e = no_mark before s m l e ∙ sym (no_mark before s n l e)
     by later (inl l) (Read k) e =
-        a-mark before s m k l e
-        ∙ later (before ++ (k ∷ [])) (afterMark s) (omega (arith, after-shorter s l)) (omega (arith, after-shorter s l))
-        ∙ sym (a-mark before s n k l e)
+        a_mark before s m k l e
+        ∙ later (before ++ (k ∷ [])) (after_mark s) (omega (arith, after_shorter s l)) (omega (arith, after_shorter s l))
+        ∙ sym (a_mark before s n k l e)
 
 -- one mark more
-pub mark-more : (before : List Mark) (s : List ℕ) (m : Mark) → 0 < length s → mark_of s ≡ Read m
-    → marksAfter before s ≡ marksAfter (before ++ (m ∷ [])) (afterMark s)
-mark-more before s m h e =
-    a-mark before s (length s) m h e
-    ∙ enough (length s) (suc (length (afterMark s))) (before ++ (m ∷ [])) (afterMark s) (after-shorter s h) (omega arith)
+pub mark_more : (before : List Mark) (s : List ℕ) (m : Mark) → 0 < length s → mark_of s ≡ Read m
+    → marks_after before s ≡ marks_after (before ++ (m ∷ [])) (after_mark s)
+mark_more before s m h e =
+    a_mark before s (length s) m h e
+    ∙ enough (length s) (suc (length (after_mark s))) (before ++ (m ∷ [])) (after_mark s) (after_shorter s h) (omega arith)
 
 -- what was read of a text: the marks before what is left, and the sheet with them
 pub record ReadTo (text left : List ℕ) (sheet : Sheet) : Type 0 where
   pub before : List Mark
-  pub whole : marksIn text ≡ marksAfter before left
-  pub folded : sheet ≡ withMarks blankSheet before
+  pub whole : marks_in text ≡ marks_after before left
+  pub folded : sheet ≡ with_marks blank_sheet before
 
-pub nothing_read : (text : List ℕ) (sheet : Sheet) → sheet ≡ blankSheet → ReadTo text text sheet
-unfolding marksIn withMarks
+pub nothing_read : (text : List ℕ) (sheet : Sheet) → sheet ≡ blank_sheet → ReadTo text text sheet
+unfolding marks_in with_marks
 nothing_read text sheet e = record { before = []; whole = refl; folded = e }
 
 pub read_more : (text left rest : List ℕ) (sheet next : Sheet) (m : Mark) → ReadTo text left sheet → 0 < length left → mark_of left ≡ Read m
-    → rest ≡ afterMark left → next ≡ withMark sheet m → ReadTo text rest next
+    → rest ≡ after_mark left → next ≡ with_mark sheet m → ReadTo text rest next
 read_more text left rest sheet next m r h e f g =
     record {
       before = r.before ++ (m ∷ []);
-      whole = r.whole ∙ mark-more r.before left m h e ∙ ap (marksAfter (r.before ++ (m ∷ []))) (sym f);
-      folded = g ∙ ap (λ (s : Sheet). withMark s m) r.folded ∙ sym (marks-snoc blankSheet r.before m);
+      whole = r.whole ∙ mark_more r.before left m h e ∙ ap (marks_after (r.before ++ (m ∷ []))) (sym f);
+      folded = g ∙ ap (λ (s : Sheet). with_mark s m) r.folded ∙ sym (marks_snoc blank_sheet r.before m);
     }
 
-if-same : {A : Type 0} (t : Bool) (a : A) → (if t then a else a) ≡ a
-if-same true a = refl
-if-same false a = refl
+if_same : {A : Type 0} (t : Bool) (a : A) → (if t then a else a) ≡ a
+if_same true a = refl
+if_same false a = refl
 
 -- the mark with which a text starts, by what its parts are
 module _ (s : List ℕ) where
   pub no_number : number_of (part_of (rest_of s)) ≡ Bad → Unread ≡ mark_of s
   unfolding mark_of
-  no_number e = rw e (sym (if-same (part_of s is "leap") Unread))
+  no_number e = rw e (sym (if_same (part_of s is "leap") Unread))
 
   module _ (p : ℕ) (placed : number_of (part_of (rest_of s)) ≡ Value p) where
-    pub leap-mark : (part_of s is "leap") ≡ true → Read (marked p Leap) ≡ mark_of s
+    pub leap_mark_lem : (part_of s is "leap") ≡ true → Read (marked p Leap) ≡ mark_of s
     unfolding mark_of
-    leap-mark e = simp (e, placed)
+    leap_mark_lem e = simp (e, placed)
 
     pub no_second : (part_of s is "leap") ≡ false → number_of (part_of (rest_of (rest_of s))) ≡ Bad → Unread ≡ mark_of s
     unfolding mark_of
     no_second e f = simp (e, placed, f)
 
-    pub number-mark : (n : ℕ) → (part_of s is "leap") ≡ false → number_of (part_of (rest_of (rest_of s))) ≡ Value n
+    pub number_mark : (n : ℕ) → (part_of s is "leap") ≡ false → number_of (part_of (rest_of (rest_of s))) ≡ Value n
         → chosen Unread (part_of s) (showing p n) ≡ mark_of s
     unfolding mark_of
-    number-mark n e f = simp (e, placed, f)
+    number_mark n e f = simp (e, placed, f)
 
 -- what a reader hands on
-abbrev asRead : Sheet → Bool → SheetRead
-asRead s whole = record { sheet = s; whole = whole }
+abbrev as_read : Sheet → Bool → SheetRead
+as_read s whole = record { sheet = s; whole = whole }
 
 module _ (text left : List ℕ) (sheet : Sheet) (r : ReadTo text left sheet) where
-  pub all_read : length left ≡ 0 → asRead sheet true ≡ sheetRead (marksIn text)
+  pub all_read : length left ≡ 0 → as_read sheet true ≡ sheet_read (marks_in text)
   all_read e =
-      ap (λ (s : Sheet). asRead s true) r.folded
-      ∙ ap sheetRead (sym (r.whole ∙ none_left r.before left (length left) e))
+      ap (λ (s : Sheet). as_read s true) r.folded
+      ∙ ap sheet_read (sym (r.whole ∙ none_left r.before left (length left) e))
 
-  pub not-read : (blank : Sheet) → blank ≡ blankSheet → 0 < length left → mark_of left ≡ Unread → asRead blank false ≡ sheetRead (marksIn text)
-  not-read blank b h e =
-      ap (λ (s : Sheet). asRead s false) b
-      ∙ ap sheetRead (sym (r.whole ∙ no-mark r.before left (length left) h e))
+  pub not_read : (blank : Sheet) → blank ≡ blank_sheet → 0 < length left → mark_of left ≡ Unread → as_read blank false ≡ sheet_read (marks_in text)
+  not_read blank b h e =
+      ap (λ (s : Sheet). as_read s false) b
+      ∙ ap sheet_read (sym (r.whole ∙ no_mark r.before left (length left) h e))
 
 -- marks that are not read are refused with one number
-only-bad : (n : ℕ) (before : List Mark) (s : List ℕ) (k : ℕ) → marksWithin n before s ≡ refused k → k ≡ badLine
-unfolding marksWithin
-only-bad zero before s k f = cc
-only-bad (suc n) before s k f = by (λ b t g. only-bad n b t k g) (lt-or-ge 0 (length s)) (mark_of s) refl
+only_bad : (n : ℕ) (before : List Mark) (s : List ℕ) (k : ℕ) → marks_within n before s ≡ refused k → k ≡ bad_line
+unfolding marks_within
+only_bad zero before s k f = cc
+only_bad (suc n) before s k f = by (λ b t g. only_bad n b t k g) (lt_or_ge 0 (length s)) (mark_of s) refl
   where
-    by : ((b : List Mark) (t : List ℕ) → marksWithin n b t ≡ refused k → k ≡ badLine)
+    by : ((b : List Mark) (t : List ℕ) → marks_within n b t ≡ refused k → k ≡ bad_line)
         → (0 < length s) ⊎ (length s ≤ 0)
         → (r : MarkRead) → mark_of s ≡ r
-        → k ≡ badLine
+        → k ≡ bad_line
     by later (inr z) r e =
         let told = none_left before s n (omega arith) in
         let no : ◌≡◌ {A = ℕ} 0 1 = cc in
         absurd (omega arith)
-    by later (inl l) Unread e = let told = no-mark before s n l e in cc
-    by later (inl l) (Read m) e = later (before ++ (m ∷ [])) (afterMark s) (sym (a-mark before s n m l e) ∙ f)
+    by later (inl l) Unread e = let told = no_mark before s n l e in cc
+    by later (inl l) (Read m) e = later (before ++ (m ∷ [])) (after_mark s) (sym (a_mark before s n m l e) ∙ f)
 
-pub refused-so : (s : List ℕ) (k : ℕ) → marksIn s ≡ refused k → k ≡ badLine
-unfolding marksIn
-refused-so s k e = only-bad (suc (length s)) [] s k e
+pub refused_so : (s : List ℕ) (k : ℕ) → marks_in s ≡ refused k → k ≡ bad_line
+unfolding marks_in
+refused_so s k e = only_bad (suc (length s)) [] s k e

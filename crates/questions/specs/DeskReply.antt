@@ -2,16 +2,16 @@
 -- holds its numbers.
 -- Assumes nothing.
 use Rattle.std.specs.Prelude.{List, [], ◌≡◌, ℕ, suc, ◌*◌, ◌≤◌, ℤ, length, take}
-use Rattle.rows.specs.Reply.{Reply, answer, refused, answerSaid}
+use Rattle.rows.specs.Reply.{Reply, answer, refused, answer_said}
 use Rattle.rows.specs.Row.{over}
-use Rattle.measure.specs.Units.{lastYear}
+use Rattle.measure.specs.Units.{last_year}
 use Rattle.measure.specs.declared.Name.{Name}
-use Rattle.signed.specs.Signed.{signedSaid}
-use Rattle.remainders.specs.Hours.{hourSaid}
-use Rattle.remainders.specs.ExtraDays.{Found, daysSaid}
+use Rattle.signed.specs.Signed.{signed_said}
+use Rattle.remainders.specs.Hours.{hour_said}
+use Rattle.remainders.specs.ExtraDays.{Found, days_said}
 use Rattle.seasons.specs.Terms.{terms as termsInYear}
-use Rattle.months.specs.Month.{MonthOfDay, monthAnswerSaid}
-use Rattle.lists.specs.Records.{recordWidth, yearRoom}
+use Rattle.months.specs.Month.{MonthOfDay, month_answer_said}
+use Rattle.lists.specs.Records.{record_width, year_room}
 use Rattle.questions.specs.declared.DeskAnswer.{DeskAnswer}
 use Rattle.questions.specs.declared.DeskAnswer.TheVariants.{Malformed, Number, Moment, Signed, Month, Name as NameOf, Hour, Days, Terms, Year, Years, Sheet, Constants, Help}
 
@@ -41,56 +41,56 @@ pub data DeskReply : Type 0 where
   help : DeskReply
 
 -- a list that was asked for, or its refusal
-abbrev pub asList : Reply ℕ → List ℕ → Reply (List ℕ)
-asList (answer k) list = answer list
-asList (refused k) list = refused k
+abbrev pub as_list : Reply ℕ → List ℕ → Reply (List ℕ)
+as_list (answer k) list = answer list
+as_list (refused k) list = refused k
 
 abbrev pub list_of : Reply (List ℕ) → List ℕ
 list_of (answer list) = list
 list_of (refused k) = []
 
 -- what is written into a lent row
-abbrev pub numbersFor : DeskReply → List ℕ
-numbersFor malformed = []
-numbersFor (number r) = []
-numbersFor (moment r) = []
-numbersFor (signed r) = []
-numbersFor (month r) = []
-numbersFor (name n) = []
-numbersFor (hour r) = []
-numbersFor (days r) = []
-numbersFor (terms r) = list_of r
-numbersFor (year r) = list_of r
-numbersFor (years r) = list_of r
-numbersFor (sheet r) = list_of r
-numbersFor constants = []
-numbersFor help = []
+abbrev pub numbers_for : DeskReply → List ℕ
+numbers_for malformed = []
+numbers_for (number r) = []
+numbers_for (moment r) = []
+numbers_for (signed r) = []
+numbers_for (month r) = []
+numbers_for (name n) = []
+numbers_for (hour r) = []
+numbers_for (days r) = []
+numbers_for (terms r) = list_of r
+numbers_for (year r) = list_of r
+numbers_for (years r) = list_of r
+numbers_for (sheet r) = list_of r
+numbers_for constants = []
+numbers_for help = []
 
 -- the list that a row holds from its start, with w numbers for each of so many
-abbrev pub listIn : ℕ → Reply ℕ → List ℕ → Reply (List ℕ)
-listIn w (answer k) row = answer (take (w * k) row)
-listIn w (refused k) row = refused k
+abbrev pub list_in : ℕ → Reply ℕ → List ℕ → Reply (List ℕ)
+list_in w (answer k) row = answer (take (w * k) row)
+list_in w (refused k) row = refused k
 
 -- the reply that each case stands for
-abbrev pub deskSaid : DeskAnswer → List ℕ → DeskReply
-deskSaid Malformed row = malformed
-deskSaid (Number a) row = number (answerSaid a)
-deskSaid (Moment a) row = moment (answerSaid a)
-deskSaid (Signed a) row = signed (signedSaid a)
-deskSaid (Month a) row = month (monthAnswerSaid a)
-deskSaid (NameOf n) row = name n
-deskSaid (Hour h) row = hour (hourSaid h)
-deskSaid (Days d) row = days (daysSaid d)
-deskSaid (Terms a) row = terms (listIn 1 (answerSaid a) row)
-deskSaid (Year a) row = year (listIn recordWidth (answerSaid a) row)
-deskSaid (Years a) row = years (listIn recordWidth (answerSaid a) row)
-deskSaid (Sheet a) row = sheet (listIn 1 (answerSaid a) row)
-deskSaid Constants row = constants
-deskSaid Help row = help
+abbrev pub desk_said : DeskAnswer → List ℕ → DeskReply
+desk_said Malformed row = malformed
+desk_said (Number a) row = number (answer_said a)
+desk_said (Moment a) row = moment (answer_said a)
+desk_said (Signed a) row = signed (signed_said a)
+desk_said (Month a) row = month (month_answer_said a)
+desk_said (NameOf n) row = name n
+desk_said (Hour h) row = hour (hour_said h)
+desk_said (Days d) row = days (days_said d)
+desk_said (Terms a) row = terms (list_in 1 (answer_said a) row)
+desk_said (Year a) row = year (list_in record_width (answer_said a) row)
+desk_said (Years a) row = years (list_in record_width (answer_said a) row)
+desk_said (Sheet a) row = sheet (list_in 1 (answer_said a) row)
+desk_said Constants row = constants
+desk_said Help row = help
 
 -- how many records all years have at most
-abbrev pub mostRecords : ℕ
-mostRecords = yearRoom * suc lastYear
+abbrev pub most_records : ℕ
+most_records = year_room * suc last_year
 
 -- a list has no more than so many, and they lie in a row of so many numbers
 abbrev pub Few : ℕ → ℕ → Reply ℕ → ℕ → Type 0
@@ -106,15 +106,15 @@ Lies (Month a) room = Unit {0}
 Lies (NameOf n) room = Unit {0}
 Lies (Hour h) room = Unit {0}
 Lies (Days d) room = Unit {0}
-Lies (Terms a) room = Few 1 termsInYear (answerSaid a) room
-Lies (Year a) room = Few recordWidth yearRoom (answerSaid a) room
-Lies (Years a) room = Few recordWidth mostRecords (answerSaid a) room
-Lies (Sheet a) room = Few 1 (suc lastYear) (answerSaid a) room
+Lies (Terms a) room = Few 1 termsInYear (answer_said a) room
+Lies (Year a) room = Few record_width year_room (answer_said a) room
+Lies (Years a) room = Few record_width most_records (answer_said a) room
+Lies (Sheet a) room = Few 1 (suc last_year) (answer_said a) room
 Lies Constants room = Unit {0}
 Lies Help room = Unit {0}
 
 -- an answer says a reply, with a row as it was and as it is
 pub record Answers (reply : DeskReply) (r : DeskAnswer) (before after : List ℕ) : Type 0 where
-  pub said : deskSaid r after ≡ reply
-  pub written : after ≡ over (numbersFor reply) before
+  pub said : desk_said r after ≡ reply
+  pub written : after ≡ over (numbers_for reply) before
   pub lies : Lies r (length after)

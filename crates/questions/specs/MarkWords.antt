@@ -3,7 +3,7 @@
 -- Assumes nothing.
 use Rattle.std.specs.Prelude.{ℕ, zero, suc, true, false, List, [], ◌∷◌, ◌++◌, length}
 use Rattle.rows.specs.Choice.{if◌then◌else◌}
-use Rattle.rows.specs.Reply.{Reply, answer, refused, badLine}
+use Rattle.rows.specs.Reply.{Reply, answer, refused, bad_line}
 use Rattle.words.specs.Number.{number_of}
 use Rattle.words.specs.declared.decimals.Number.{Number}
 use Rattle.words.specs.declared.decimals.Number.TheVariants.{Value, Bad}
@@ -11,7 +11,7 @@ use Rattle.words.specs.Text.{◌is◌}
 use Rattle.words.specs.Numbers.{is_empty, part_of, rest_of}
 use Rattle.words.specs.Choice.{Choices, chosen}
 use Rattle.sheets.specs.Marks.{marked}
-use Rattle.sheets.specs.Sheet.{blankSheet, withMarks}
+use Rattle.sheets.specs.Sheet.{blank_sheet, with_marks}
 use Rattle.sheets.specs.declared.Mark.{Mark}
 use Rattle.sheets.specs.declared.Shown.TheVariants.{Name, Stem, Branch, Length, Leap}
 use Rattle.questions.specs.declared.marks.SheetRead.{SheetRead}
@@ -28,45 +28,45 @@ showing p n =
     ∷ []
 
 -- a word with its place, and with its place and its number
-abbrev pub leapMarked : Number → MarkRead
-leapMarked (Value p) = Read (marked p Leap)
-leapMarked Bad = Unread
+abbrev pub leap_marked : Number → MarkRead
+leap_marked (Value p) = Read (marked p Leap)
+leap_marked Bad = Unread
 
-abbrev pub numberMarked : List ℕ → Number → Number → MarkRead
-numberMarked word (Value p) (Value n) = chosen Unread word (showing p n)
-numberMarked word (Value p) Bad = Unread
-numberMarked word Bad n = Unread
+abbrev pub number_marked : List ℕ → Number → Number → MarkRead
+number_marked word (Value p) (Value n) = chosen Unread word (showing p n)
+number_marked word (Value p) Bad = Unread
+number_marked word Bad n = Unread
 
 -- the mark with which a text starts
 unfoldable pub mark_of : List ℕ → MarkRead
 mark_of s =
     let place = number_of (part_of (rest_of s)) in
     if part_of s is "leap"
-    then leapMarked place
-    else numberMarked (part_of s) place (number_of (part_of (rest_of (rest_of s))))
+    then leap_marked place
+    else number_marked (part_of s) place (number_of (part_of (rest_of (rest_of s))))
 
 -- what follows it
-unfoldable pub afterMark : List ℕ → List ℕ
-afterMark s = if part_of s is "leap" then rest_of (rest_of s) else rest_of (rest_of (rest_of s))
+unfoldable pub after_mark : List ℕ → List ℕ
+after_mark s = if part_of s is "leap" then rest_of (rest_of s) else rest_of (rest_of (rest_of s))
 
 -- where a mark is read, on with it
-abbrev pub onMark : MarkRead → (Mark → Reply (List Mark)) → Reply (List Mark)
-onMark (Read m) on = on m
-onMark Unread on = refused badLine
+abbrev pub on_mark : MarkRead → (Mark → Reply (List Mark)) → Reply (List Mark)
+on_mark (Read m) on = on m
+on_mark Unread on = refused bad_line
 
 -- the marks of a text, after those before it. Each takes a byte at least, so that none is left when the bytes have been counted
-unfoldable pub marksWithin : ℕ → List Mark → List ℕ → Reply (List Mark)
-marksWithin zero before s = refused badLine
-marksWithin (suc n) before s =
+unfoldable pub marks_within : ℕ → List Mark → List ℕ → Reply (List Mark)
+marks_within zero before s = refused bad_line
+marks_within (suc n) before s =
     if is_empty s
     then answer before
-    else onMark (mark_of s) (λ m. marksWithin n (before ++ (m ∷ [])) (afterMark s))
+    else on_mark (mark_of s) (λ m. marks_within n (before ++ (m ∷ [])) (after_mark s))
 
 -- all marks of a text; one that is no marks is refused
-unfoldable pub marksIn : List ℕ → Reply (List Mark)
-marksIn s = marksWithin (suc (length s)) [] s
+unfoldable pub marks_in : List ℕ → Reply (List Mark)
+marks_in s = marks_within (suc (length s)) [] s
 
 -- what a program holds of them: the sheet with all marks; where a text is no marks, the blank one
-abbrev pub sheetRead : Reply (List Mark) → SheetRead
-sheetRead (answer marks) = record { sheet = withMarks blankSheet marks; whole = true }
-sheetRead (refused k) = record { sheet = blankSheet; whole = false }
+abbrev pub sheet_read : Reply (List Mark) → SheetRead
+sheet_read (answer marks) = record { sheet = with_marks blank_sheet marks; whole = true }
+sheet_read (refused k) = record { sheet = blank_sheet; whole = false }

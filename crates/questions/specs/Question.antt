@@ -2,9 +2,9 @@
 -- one blank between them, and whatever is no question is refused. Where a list is asked for, `room` is how many numbers the lent row has.
 -- Assumes nothing.
 use Rattle.std.specs.Prelude.{ℕ, ◌/◌, List, [], ◌∷◌, length}
-use Rattle.words.specs.Line.{word_of, afterWord}
-use Rattle.words.specs.Choice.{Choices, chosen, choiceAt}
-use Rattle.words.specs.Numbers.{part_of, rest_of, numbersOf}
+use Rattle.words.specs.Line.{word_of, after_word}
+use Rattle.words.specs.Choice.{Choices, chosen, choice_at}
+use Rattle.words.specs.Numbers.{part_of, rest_of, numbers_of}
 use Rattle.words.specs.Text.{◌is◌}
 use Rattle.words.specs.declared.Numbers.{Numbers}
 use Rattle.words.specs.declared.Numbers.TheVariants.{Nothing, One, Two, Three, Other}
@@ -12,28 +12,28 @@ use Rattle.rows.specs.Choice.{if◌then◌else◌, ◌<?◌}
 use Rattle.rows.specs.Reply.{Reply, answer, refused}
 use Rattle.measure.specs.Epoch.{Epoch}
 use Rattle.measure.specs.Days.{name_of}
-use Rattle.remainders.specs.Hours.{hourReply}
-use Rattle.remainders.specs.ExtraDays.{extraReply, vanishingReply}
-use Rattle.signed.specs.Signed.{asInteger}
+use Rattle.remainders.specs.Hours.{hour_reply}
+use Rattle.remainders.specs.ExtraDays.{extra_reply, vanishing_reply}
+use Rattle.signed.specs.Signed.{as_integer}
 use Rattle.inequalities.specs.Limits.{quick, tardy}
-use Rattle.inequalities.specs.Solar.{fast, slow, solarAtReply}
-use Rattle.inequalities.specs.Lunar.{lunarAtReply}
-use Rattle.inequalities.specs.Motion.{motionAtReply}
-use Rattle.seasons.specs.Solstice.{solsticeReply}
-use Rattle.seasons.specs.Terms.{termReply, termList, termsReply, pentadReply, earthReply}
-use Rattle.moons.specs.Lunation.{meanReply}
-use Rattle.moons.specs.TrueMoon.{solarReply, lunarReply, motionReply, correctionReply, trueReply}
-use Rattle.month_law.specs.Calendar.{monthsIn}
+use Rattle.inequalities.specs.Solar.{fast, slow, solar_at_reply}
+use Rattle.inequalities.specs.Lunar.{lunar_at_reply}
+use Rattle.inequalities.specs.Motion.{motion_at_reply}
+use Rattle.seasons.specs.Solstice.{solstice_reply}
+use Rattle.seasons.specs.Terms.{term_reply, term_list, terms_reply, pentad_reply, earth_reply}
+use Rattle.moons.specs.Lunation.{mean_reply}
+use Rattle.moons.specs.TrueMoon.{solar_reply, lunar_reply, motion_reply, correction_reply, true_reply}
+use Rattle.month_law.specs.Calendar.{months_in}
 use Rattle.edition.specs.Edition.{calendar}
-use Rattle.months.specs.Head.{headReply}
-use Rattle.months.specs.Month.{dayReply}
-use Rattle.months.specs.Date.{backReply}
-use Rattle.lists.specs.Records.{recordWidth, recordsOf}
-use Rattle.lists.specs.Lists.{run_of, listReply, runReply}
-use Rattle.sheets.specs.Marks.{agreeing, sheetReply}
+use Rattle.months.specs.Head.{head_reply}
+use Rattle.months.specs.Month.{day_reply}
+use Rattle.months.specs.Date.{back_reply}
+use Rattle.lists.specs.Records.{record_width, records_of}
+use Rattle.lists.specs.Lists.{run_of, list_reply, run_reply}
+use Rattle.sheets.specs.Marks.{agreeing, sheet_reply}
 use Rattle.sheets.specs.declared.Mark.{Mark}
-use Rattle.questions.specs.DeskReply.{DeskReply, malformed, number, moment, signed, month, name, hour, days, terms, year, years, sheet, constants, help, asList}
-use Rattle.questions.specs.MarkWords.{marksIn}
+use Rattle.questions.specs.DeskReply.{DeskReply, malformed, number, moment, signed, month, name, hour, days, terms, year, years, sheet, constants, help, as_list}
+use Rattle.questions.specs.MarkWords.{marks_in}
 
 -- words, with the reply to each
 abbrev pub Questions : Type 0
@@ -46,90 +46,90 @@ word among qs = chosen malformed word qs
 
 -- the reply at a place, counted from 0
 abbrev pub ◌at◌ : Questions → ℕ → DeskReply
-qs at k = choiceAt malformed qs k
+qs at k = choice_at malformed qs k
 
 -- a word alone
 unfoldable pub alone : Questions
 alone = ("constants", constants) ∷ ("help", help) ∷ []
 
 -- with one number: a year, a day, or a day's remainder
-unfoldable pub withOne : Epoch → ℕ → ℕ → Questions
-withOne e room n =
-    ("solstice", moment (solsticeReply e n))
-    ∷ ("terms", terms (asList (termsReply n room) (termList e n)))
-    ∷ ("head", number (headReply e n))
-    ∷ ("year", year (asList (listReply e n (room / recordWidth)) (recordsOf (calendar e) n (monthsIn (calendar e) n))))
-    ∷ ("day", month (dayReply e n))
+unfoldable pub with_one : Epoch → ℕ → ℕ → Questions
+with_one e room n =
+    ("solstice", moment (solstice_reply e n))
+    ∷ ("terms", terms (as_list (terms_reply n room) (term_list e n)))
+    ∷ ("head", number (head_reply e n))
+    ∷ ("year", year (as_list (list_reply e n (room / record_width)) (records_of (calendar e) n (months_in (calendar e) n))))
+    ∷ ("day", month (day_reply e n))
     ∷ ("name", name (name_of n))
-    ∷ ("hour", hour (hourReply n))
-    ∷ ("extra", days (extraReply n))
-    ∷ ("vanishing", days (vanishingReply n))
+    ∷ ("hour", hour (hour_reply n))
+    ∷ ("extra", days (extra_reply n))
+    ∷ ("vanishing", days (vanishing_reply n))
     ∷ []
 
 -- with two: a year and a term, a year and how many, or a lunation and its quarter
-unfoldable pub withTwo : Epoch → ℕ → ℕ → ℕ → Questions
-withTwo e room n i =
-    ("term", moment (termReply e n i))
-    ∷ ("earth", moment (earthReply e n i))
-    ∷ ("years", years (asList (runReply e n i (room / recordWidth)) (run_of (calendar e) n i)))
-    ∷ ("mean", moment (meanReply e n i))
-    ∷ ("true", moment (trueReply e n i))
-    ∷ ("motion", number (motionReply e n i))
-    ∷ ("solar", signed (asInteger (solarReply e n i)))
-    ∷ ("lunar", signed (asInteger (lunarReply e n i)))
-    ∷ ("correction", signed (asInteger (correctionReply e n i)))
+unfoldable pub with_two : Epoch → ℕ → ℕ → ℕ → Questions
+with_two e room n i =
+    ("term", moment (term_reply e n i))
+    ∷ ("earth", moment (earth_reply e n i))
+    ∷ ("years", years (as_list (run_reply e n i (room / record_width)) (run_of (calendar e) n i)))
+    ∷ ("mean", moment (mean_reply e n i))
+    ∷ ("true", moment (true_reply e n i))
+    ∷ ("motion", number (motion_reply e n i))
+    ∷ ("solar", signed (as_integer (solar_reply e n i)))
+    ∷ ("lunar", signed (as_integer (lunar_reply e n i)))
+    ∷ ("correction", signed (as_integer (correction_reply e n i)))
     ∷ []
 
 -- with three: a year, a term and its pentad, or a year, a place in it and a day of the month there
-unfoldable pub withThree : Epoch → ℕ → ℕ → ℕ → Questions
-withThree e n i p = ("pentad", moment (pentadReply e n i p)) ∷ ("back", number (backReply e n i p)) ∷ []
+unfoldable pub with_three : Epoch → ℕ → ℕ → ℕ → Questions
+with_three e n i p = ("pentad", moment (pentad_reply e n i p)) ∷ ("back", number (back_reply e n i p)) ∷ []
 
 -- with a half, and a time or a whole limit in it
-unfoldable pub solarIn : ℕ → Questions
-solarIn t =
-    ("fast", signed (asInteger (solarAtReply fast t))) ∷ ("slow", signed (asInteger (solarAtReply slow t))) ∷ []
+unfoldable pub solar_in : ℕ → Questions
+solar_in t =
+    ("fast", signed (as_integer (solar_at_reply fast t))) ∷ ("slow", signed (as_integer (solar_at_reply slow t))) ∷ []
 
-unfoldable pub lunarIn : ℕ → Questions
-lunarIn t =
-    ("quick", signed (asInteger (lunarAtReply quick t))) ∷ ("tardy", signed (asInteger (lunarAtReply tardy t))) ∷ []
+unfoldable pub lunar_in : ℕ → Questions
+lunar_in t =
+    ("quick", signed (as_integer (lunar_at_reply quick t))) ∷ ("tardy", signed (as_integer (lunar_at_reply tardy t))) ∷ []
 
-unfoldable pub motionIn : ℕ → Questions
-motionIn k = ("quick", number (motionAtReply quick k)) ∷ ("tardy", number (motionAtReply tardy k)) ∷ []
+unfoldable pub motion_in : ℕ → Questions
+motion_in k = ("quick", number (motion_at_reply quick k)) ∷ ("tardy", number (motion_at_reply tardy k)) ∷ []
 
-unfoldable pub withHalf : List ℕ → ℕ → Questions
-withHalf half t =
-    ("solar-at", half among solarIn t)
-    ∷ ("lunar-at", half among lunarIn t)
-    ∷ ("motion-at", half among motionIn t)
+unfoldable pub with_half : List ℕ → ℕ → Questions
+with_half half t =
+    ("solar-at", half among solar_in t)
+    ∷ ("lunar-at", half among lunar_in t)
+    ∷ ("motion-at", half among motion_in t)
     ∷ []
 
 -- the word, the half and the numbers after it, of which there is one
-abbrev pub onHalf : List ℕ → List ℕ → Numbers → DeskReply
-onHalf word half (One t) = word among withHalf half t
-onHalf word half Nothing = malformed
-onHalf word half (Two a b) = malformed
-onHalf word half (Three a b c) = malformed
-onHalf word half Other = malformed
+abbrev pub on_half : List ℕ → List ℕ → Numbers → DeskReply
+on_half word half (One t) = word among with_half half t
+on_half word half Nothing = malformed
+on_half word half (Two a b) = malformed
+on_half word half (Three a b c) = malformed
+on_half word half Other = malformed
 
 -- the word and the numbers that the rest of the line is; where it is none, it starts with a half
-abbrev pub onNumbers : Epoch → ℕ → List ℕ → List ℕ → Numbers → DeskReply
-onNumbers e room word rest Nothing = word among alone
-onNumbers e room word rest (One n) = word among withOne e room n
-onNumbers e room word rest (Two n i) = word among withTwo e room n i
-onNumbers e room word rest (Three n i p) = word among withThree e n i p
-onNumbers e room word rest Other = onHalf word (part_of rest) (numbersOf (rest_of rest))
+abbrev pub on_numbers : Epoch → ℕ → List ℕ → List ℕ → Numbers → DeskReply
+on_numbers e room word rest Nothing = word among alone
+on_numbers e room word rest (One n) = word among with_one e room n
+on_numbers e room word rest (Two n i) = word among with_two e room n i
+on_numbers e room word rest (Three n i p) = word among with_three e n i p
+on_numbers e room word rest Other = on_half word (part_of rest) (numbers_of (rest_of rest))
 
 -- the longest line that is answered
 abbrev pub longest : ℕ
 longest = 1_023
 
 -- a torn sheet by its marks; a text that is not all marks is no sheet
-abbrev pub onMarks : Epoch → ℕ → Reply (List Mark) → DeskReply
-onMarks e room (answer marks) = sheet (asList (sheetReply e marks room) (agreeing e marks))
-onMarks e room (refused k) = sheet (refused k)
+abbrev pub on_marks : Epoch → ℕ → Reply (List Mark) → DeskReply
+on_marks e room (answer marks) = sheet (as_list (sheet_reply e marks room) (agreeing e marks))
+on_marks e room (refused k) = sheet (refused k)
 
-unfoldable pub replyTo : Epoch → ℕ → List ℕ → DeskReply
-replyTo e room line =
+unfoldable pub reply_to : Epoch → ℕ → List ℕ → DeskReply
+reply_to e room line =
     if longest <? length line then malformed else
-    if word_of line is "sheet" then onMarks e room (marksIn (afterWord line)) else
-    onNumbers e room (word_of line) (afterWord line) (numbersOf (afterWord line))
+    if word_of line is "sheet" then on_marks e room (marks_in (after_word line)) else
+    on_numbers e room (word_of line) (after_word line) (numbers_of (after_word line))

@@ -2,7 +2,7 @@
 ghost use Rattle.std.specs.Prelude.{List, ℕ, length};
 ghost use Rattle.measure.specs.Epoch.{shoushi};
 ghost use Rattle.questions.specs.DeskReply.{Answers};
-ghost use Rattle.questions.specs.Question.{◌among◌, ◌at◌, alone, withOne, withTwo, withThree};
+ghost use Rattle.questions.specs.Question.{◌among◌, ◌at◌, alone, with_one, with_two, with_three};
 
 use crate::DeskAnswer;
 use words::place_of;
@@ -24,7 +24,7 @@ fn alone_at(k: usize) -> DeskAnswer
 }
 
 pub(crate) fn with_one(word: &[u8], n: u64, row: &mut [u64]) -> DeskAnswer
-    ensures { Answers (word.now among withOne shoushi (length row.old) n) result row.old row.new }
+    ensures { Answers (word.now among with_one shoushi (length row.old) n) result row.old row.new }
 {
     one_at(
         place_of(
@@ -37,7 +37,7 @@ pub(crate) fn with_one(word: &[u8], n: u64, row: &mut [u64]) -> DeskAnswer
 }
 
 fn one_at(k: usize, n: u64, row: &mut [u64]) -> DeskAnswer
-    ensures { Answers (withOne shoushi (length row.old) n at k) result row.old row.new }
+    ensures { Answers (with_one shoushi (length row.old) n at k) result row.old row.new }
 {
     match k {
         0 => DeskAnswer::Moment(seasons::solstice(n)),
@@ -54,7 +54,7 @@ fn one_at(k: usize, n: u64, row: &mut [u64]) -> DeskAnswer
 }
 
 pub(crate) fn with_two(word: &[u8], n: u64, i: u64, row: &mut [u64]) -> DeskAnswer
-    ensures { Answers (word.now among withTwo shoushi (length row.old) n i) result row.old row.new }
+    ensures { Answers (word.now among with_two shoushi (length row.old) n i) result row.old row.new }
 {
     two_at(
         place_of(
@@ -68,7 +68,7 @@ pub(crate) fn with_two(word: &[u8], n: u64, i: u64, row: &mut [u64]) -> DeskAnsw
 }
 
 fn two_at(k: usize, n: u64, i: u64, row: &mut [u64]) -> DeskAnswer
-    ensures { Answers (withTwo shoushi (length row.old) n i at k) result row.old row.new }
+    ensures { Answers (with_two shoushi (length row.old) n i at k) result row.old row.new }
 {
     match k {
         0 => DeskAnswer::Moment(seasons::term(n, i)),
@@ -85,13 +85,13 @@ fn two_at(k: usize, n: u64, i: u64, row: &mut [u64]) -> DeskAnswer
 }
 
 pub(crate) fn with_three(word: &[u8], n: u64, i: u64, p: u64) -> DeskAnswer
-    ensures { (row : List ℕ) → Answers (word.now among withThree shoushi n i p) result row row }
+    ensures { (row : List ℕ) → Answers (word.now among with_three shoushi n i p) result row row }
 {
     three_at(place_of(word, b" pentad back"), n, i, p)
 }
 
 fn three_at(k: usize, n: u64, i: u64, p: u64) -> DeskAnswer
-    ensures { (row : List ℕ) → Answers (withThree shoushi n i p at k) result row row }
+    ensures { (row : List ℕ) → Answers (with_three shoushi n i p at k) result row row }
 {
     match k {
         0 => DeskAnswer::Moment(seasons::pentad(n, i, p)),

@@ -1,9 +1,9 @@
 // The inequalities and the motion asked directly: a half, and a time or a whole limit in it. Words and halves are found by
 // their place in a list.
 ghost use Rattle.std.specs.Prelude.{List, ℕ};
-ghost use Rattle.words.specs.Numbers.{part_of, rest_of, numbersOf};
+ghost use Rattle.words.specs.Numbers.{part_of, rest_of, numbers_of};
 ghost use Rattle.questions.specs.DeskReply.{Answers};
-ghost use Rattle.questions.specs.Question.{◌among◌, ◌at◌, solarIn, lunarIn, motionIn, withHalf, onHalf};
+ghost use Rattle.questions.specs.Question.{◌among◌, ◌at◌, solar_in, lunar_in, motion_in, with_half, on_half};
 
 use crate::DeskAnswer;
 use inequalities::limits::LunarHalf;
@@ -12,7 +12,7 @@ use words::{Numbers, place_of};
 
 // After the half there is one number.
 pub(crate) fn on_half(word: &[u8], rest: &[u8]) -> DeskAnswer
-    ensures { (row : List ℕ) → Answers (onHalf word.now (part_of rest.now) (numbersOf (rest_of rest.now))) result row row }
+    ensures { (row : List ℕ) → Answers (on_half word.now (part_of rest.now) (numbers_of (rest_of rest.now))) result row row }
 {
     let numbers = words::numbers_in(words::rest_in(rest));
     let Numbers::One(t) = numbers else {
@@ -22,13 +22,13 @@ pub(crate) fn on_half(word: &[u8], rest: &[u8]) -> DeskAnswer
 }
 
 fn with_half(word: &[u8], half: &[u8], t: u64) -> DeskAnswer
-    ensures { (row : List ℕ) → Answers (word.now among withHalf half.now t) result row row }
+    ensures { (row : List ℕ) → Answers (word.now among with_half half.now t) result row row }
 {
     half_at(place_of(word, b" solar-at lunar-at motion-at"), half, t)
 }
 
 fn half_at(k: usize, half: &[u8], t: u64) -> DeskAnswer
-    ensures { (row : List ℕ) → Answers (withHalf half.now t at k) result row row }
+    ensures { (row : List ℕ) → Answers (with_half half.now t at k) result row row }
 {
     match k {
         0 => solar_in(half, t),
@@ -39,13 +39,13 @@ fn half_at(k: usize, half: &[u8], t: u64) -> DeskAnswer
 }
 
 fn solar_in(half: &[u8], t: u64) -> DeskAnswer
-    ensures { (row : List ℕ) → Answers (half.now among solarIn t) result row row }
+    ensures { (row : List ℕ) → Answers (half.now among solar_in t) result row row }
 {
     solar_by(place_of(half, b" fast slow"), t)
 }
 
 fn solar_by(k: usize, t: u64) -> DeskAnswer
-    ensures { (row : List ℕ) → Answers (solarIn t at k) result row row }
+    ensures { (row : List ℕ) → Answers (solar_in t at k) result row row }
 {
     match k {
         0 => DeskAnswer::Signed(inequalities::solar::solar_at(SolarHalf::Fast, t)),
@@ -55,13 +55,13 @@ fn solar_by(k: usize, t: u64) -> DeskAnswer
 }
 
 fn lunar_in(half: &[u8], t: u64) -> DeskAnswer
-    ensures { (row : List ℕ) → Answers (half.now among lunarIn t) result row row }
+    ensures { (row : List ℕ) → Answers (half.now among lunar_in t) result row row }
 {
     lunar_by(place_of(half, b" quick tardy"), t)
 }
 
 fn lunar_by(k: usize, t: u64) -> DeskAnswer
-    ensures { (row : List ℕ) → Answers (lunarIn t at k) result row row }
+    ensures { (row : List ℕ) → Answers (lunar_in t at k) result row row }
 {
     match k {
         0 => DeskAnswer::Signed(inequalities::lunar::lunar_at(LunarHalf::Quick, t)),
@@ -71,13 +71,13 @@ fn lunar_by(k: usize, t: u64) -> DeskAnswer
 }
 
 fn motion_in(half: &[u8], t: u64) -> DeskAnswer
-    ensures { (row : List ℕ) → Answers (half.now among motionIn t) result row row }
+    ensures { (row : List ℕ) → Answers (half.now among motion_in t) result row row }
 {
     motion_by(place_of(half, b" quick tardy"), t)
 }
 
 fn motion_by(k: usize, t: u64) -> DeskAnswer
-    ensures { (row : List ℕ) → Answers (motionIn t at k) result row row }
+    ensures { (row : List ℕ) → Answers (motion_in t at k) result row row }
 {
     match k {
         0 => DeskAnswer::Number(inequalities::motions::motion_at(LunarHalf::Quick, t)),

@@ -4,10 +4,10 @@ mod halves;
 mod marks;
 
 ghost use Rattle.std.specs.Prelude.{◌≡◌, length};
-ghost use Rattle.words.specs.Numbers.{numbersOf};
+ghost use Rattle.words.specs.Numbers.{numbers_of};
 ghost use Rattle.measure.specs.Epoch.{shoushi};
 ghost use Rattle.questions.specs.DeskReply.{Answers};
-ghost use Rattle.questions.specs.Question.{onNumbers, replyTo};
+ghost use Rattle.questions.specs.Question.{on_numbers, reply_to};
 
 use measure::Name;
 use months::MonthAnswer;
@@ -49,7 +49,7 @@ pub const LONGEST: usize = 1_023;
 // The answer to a line: its first word says what is asked, and the rest of what. A list goes into the row from its start; a row too short for
 // it is refused with 4.
 pub fn ask(line: &[u8], row: &mut [u64]) -> DeskAnswer
-    ensures { Answers (replyTo shoushi (length row.old) line.now) result row.old row.new }
+    ensures { Answers (reply_to shoushi (length row.old) line.now) result row.old row.new }
 {
     if line.len() > LONGEST {
         return DeskAnswer::Malformed;
@@ -64,7 +64,7 @@ pub fn ask(line: &[u8], row: &mut [u64]) -> DeskAnswer
 
 // The numbers are read once. Where the rest is no numbers, it starts with a half.
 fn by_numbers(word: &[u8], rest: &[u8], row: &mut [u64]) -> DeskAnswer
-    ensures { Answers (onNumbers shoushi (length row.old) word.now rest.now (numbersOf rest.now)) result row.old row.new }
+    ensures { Answers (on_numbers shoushi (length row.old) word.now rest.now (numbers_of rest.now)) result row.old row.new }
 {
     let numbers = words::numbers_in(rest);
     match numbers {

@@ -2,10 +2,10 @@
 ghost use Rattle.std.specs.Prelude.{◌≡◌, length};
 ghost use Rattle.measure.specs.Epoch.{shoushi};
 ghost use Rattle.words.specs.Text.{◌is◌};
-ghost use Rattle.words.specs.Choice.{chosen, choiceAt};
+ghost use Rattle.words.specs.Choice.{chosen, choice_at};
 ghost use Rattle.questions.specs.DeskReply.{Answers};
-ghost use Rattle.questions.specs.MarkWords.{showing, mark_of, afterMark, marksIn, sheetRead};
-ghost use Rattle.questions.specs.Question.{onMarks};
+ghost use Rattle.questions.specs.MarkWords.{showing, mark_of, after_mark, marks_in, sheet_read};
+ghost use Rattle.questions.specs.Question.{on_marks};
 ghost use Rattle.questions.specs.declared.marks.MarkRead.TheVariants.{Unread};
 
 use crate::DeskAnswer;
@@ -16,7 +16,7 @@ use words::{part_in, place_of, rest_in};
 
 // The years that agree with the marks of a text, in the row. A text that is not all marks is no sheet.
 pub(crate) fn on_marks(text: &[u8], row: &mut [u64]) -> DeskAnswer
-    ensures { Answers (onMarks shoushi (length row.old) (marksIn text.now)) result row.old row.new }
+    ensures { Answers (on_marks shoushi (length row.old) (marks_in text.now)) result row.old row.new }
 {
     let read = sheet_in(text);
     let sheet = read.sheet;
@@ -35,7 +35,7 @@ struct SheetRead {
 }
 
 fn sheet_in(text: &[u8]) -> SheetRead
-    ensures { result ≡ sheetRead (marksIn text.now) }
+    ensures { result ≡ sheet_read (marks_in text.now) }
 {
     let mut sheet = sheets::blank();
     let mut left = text;
@@ -82,7 +82,7 @@ fn mark_in(s: &[u8]) -> MarkRead
 
 // What follows it: a leap mark has no number after its place.
 fn after_mark<'a>(s: &'a [u8]) -> &'a [u8]
-    ensures { result.now ≡ afterMark s.now }
+    ensures { result.now ≡ after_mark s.now }
 {
     let rest = rest_in(rest_in(s));
     if is_leap(part_in(s)) {
@@ -105,7 +105,7 @@ fn shown_by(word: &[u8], place: u64, n: u64) -> MarkRead
 }
 
 fn shown_at(k: usize, place: u64, n: u64) -> MarkRead
-    ensures { result ≡ choiceAt Unread (showing place n) k }
+    ensures { result ≡ choice_at Unread (showing place n) k }
 {
     let shown = match k {
         0 => Shown::Name(n),

@@ -5,16 +5,16 @@ use Rattle.reads.specs.Given.{Given, bytes, failed, gotSaid}
 use Rattle.reads.specs.declared.Got.{Got}
 use Rattle.reads.specs.declared.Got.TheVariants.{Bytes, Failed}
 use Rattle.reads.proofs.given.Kinds as goal
-use Rattle.reads.proofs.given.Reads as given-reads
+use Rattle.reads.proofs.given.Reads as given_reads
 
-gotMeant : Given → Got
-gotMeant (bytes n) = Bytes n
-gotMeant failed = Failed
+got_meant : Given → Got
+got_meant (bytes n) = Bytes n
+got_meant failed = Failed
 
-got-back : (g : Got) → gotMeant (gotSaid g) ≡ g
-unfolding gotMeant
-got-back (Bytes n) = refl
-got-back Failed = refl
+got_back : (g : Got) → got_meant (gotSaid g) ≡ g
+unfolding got_meant
+got_back (Bytes n) = refl
+got_back Failed = refl
 
-pub given-unique : OneReply goal.ps goal.r given-reads.Post
-given-unique κs a x y s t p q = read_back gotSaid gotMeant got-back x y _ p.0 q.0
+pub given_unique : OneReply goal.ps goal.r given_reads.Post
+given_unique κs a x y s t p q = read_back gotSaid got_meant got_back x y _ p.0 q.0

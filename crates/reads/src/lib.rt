@@ -11,7 +11,7 @@ pub enum Got {
 
 // What the number says that a read into the row answered. A failed read is never taken for the input's end.
 pub fn given(answered: isize, row: &[u8]) -> Got
-    ensures result_value { gotSaid result ≡ given answered (length row.now) }
+    ensures value { gotSaid result ≡ given answered (length row.now) }
     ensures within { Within result (length row.now) }
 {
     if answered < 0 {

@@ -18,39 +18,39 @@ use Rattle.rows.specs.Reply.{Reply}
 use Rattle.measure.specs.Epoch.{shoushi}
 use Rattle.rows.specs.declared.Answer.{Answer}
 use Rattle.rows.proofs.Determined.{one_answer}
-use Rattle.month_law.specs.Calendar.{monthsIn}
+use Rattle.month_law.specs.Calendar.{months_in}
 use Rattle.edition.specs.Edition.{calendar}
-use Rattle.lists.specs.Records.{recordsOf}
-use Rattle.lists.specs.Lists.{run_of, listReply, runReply}
+use Rattle.lists.specs.Records.{records_of}
+use Rattle.lists.specs.Lists.{run_of, list_reply, run_reply}
 use Rattle.records.specs.declared.MonthRecord.{MonthRecord}
 use Rattle.records.proofs.Runs.{Says, YearSays, RunSays}
-use Rattle.records.specs.contracts.run_records as run-records
-use Rattle.records.specs.contracts.year_records as year-records
+use Rattle.records.specs.contracts.run_records as run_records_lem
+use Rattle.records.specs.contracts.year_records as year_records_lem
 
 module _ {M : Type 1} {𝓤 : Ura M} (𝓛 : Logic 𝓤) (mem : Memory → SProp 𝓤) (run : Routine → Fun 𝓤) (κs : Lfts 1) where
-  year-says : (a : Args year-records.signature κs) (r : Answer) (end : AtExit year-records.ended κs)
-      → (year-records.clauses 𝓛 mem run κs a).ensures tt r end ≡ fact 𝓤 (YearSays a.0 a.1.0.now r end.1.0.now)
-  year-says a r end = refl
+  year_says : (a : Args year_records_lem.signature κs) (r : Answer) (end : AtExit year_records_lem.ended κs)
+      → (year_records_lem.clauses 𝓛 mem run κs a).ensures tt r end ≡ fact 𝓤 (YearSays a.0 a.1.0.now r end.1.0.now)
+  year_says a r end = refl
 
-  run-says : (a : Args run-records.signature κs) (r : Answer) (end : AtExit run-records.ended κs)
-      → (run-records.clauses 𝓛 mem run κs a).ensures tt r end ≡ fact 𝓤 (RunSays a.0 a.1.0 a.1.1.0.now r end.1.1.0.now)
-  run-says a r end = refl
+  run_says : (a : Args run_records_lem.signature κs) (r : Answer) (end : AtExit run_records_lem.ended κs)
+      → (run_records_lem.clauses 𝓛 mem run κs a).ensures tt r end ≡ fact 𝓤 (RunSays a.0 a.1.0 a.1.1.0.now r end.1.1.0.now)
+  run_says a r end = refl
 
-one-outcome : (reply : Reply ℕ) (numbers : List ℕ) (row : List MonthRecord) (x y : Answer) (s t : List MonthRecord)
+one_outcome : (reply : Reply ℕ) (numbers : List ℕ) (row : List MonthRecord) (x y : Answer) (s t : List MonthRecord)
     → Says reply numbers row x s
     → Says reply numbers row y t
     → (x ≡ y) × (s ≡ t)
-one-outcome reply numbers row x y s t p q = (one_answer x y reply p.0 q.0, p.1 ∙ sym q.1)
+one_outcome reply numbers row x y s t p q = (one_answer x y reply p.0 q.0, p.1 ∙ sym q.1)
 
-pub year-records-unique : (n : ℕ) (row : List MonthRecord) (x y : Answer) (s t : List MonthRecord)
+pub year_records_unique : (n : ℕ) (row : List MonthRecord) (x y : Answer) (s t : List MonthRecord)
     → YearSays n row x s
     → YearSays n row y t
     → (x ≡ y) × (s ≡ t)
-year-records-unique n row = one-outcome (listReply shoushi n (length row)) (recordsOf (calendar shoushi) n (monthsIn
+year_records_unique n row = one_outcome (list_reply shoushi n (length row)) (records_of (calendar shoushi) n (months_in
     (calendar shoushi) n)) row
 
-pub run-records-unique : (n count : ℕ) (row : List MonthRecord) (x y : Answer) (s t : List MonthRecord)
+pub run_records_unique : (n count : ℕ) (row : List MonthRecord) (x y : Answer) (s t : List MonthRecord)
     → RunSays n count row x s
     → RunSays n count row y t
     → (x ≡ y) × (s ≡ t)
-run-records-unique n count row = one-outcome (runReply shoushi n count (length row)) (run_of (calendar shoushi) n count) row
+run_records_unique n count row = one_outcome (run_reply shoushi n count (length row)) (run_of (calendar shoushi) n count) row

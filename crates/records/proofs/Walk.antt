@@ -38,15 +38,15 @@ module _ {M : Type 1} {𝓤 : Ura M} (𝓛 : Logic 𝓤) (T : Ended) where
     abbrev Taken : List RattleType
     Taken = types_at T.signature.params x.0
 
-    abbrev Given-back : RattleType
-    Given-back = type_at T.signature.result x.0
+    abbrev GivenBack : RattleType
+    GivenBack = type_at T.signature.result x.0
 
 module _ {M : Type 1} {𝓤 : Ura M} {𝓛 : Logic 𝓤} {K : Type 0} {Γ : List (Item 𝓤)} {E : Env 𝓤 𝓛.H} {C : Calls 𝓤 𝓛.H}
     {Λ : Loops 𝓤 𝓛.H} {q : Post 𝓤 𝓛.H} where
   -- what the parameters own is had for nothing, and of the result its value is known and what is ensured of it
   open 𝓛 use {H}
 
-  pub calls-plain : K → FmC 𝓤 H 𝓛.laws C → {f : Name} {xs : List Operand} {d : Place} {rest : Body} (T : Ended) (c : Clauses 𝓤 T)
+  pub calls_plain : K → FmC 𝓤 H 𝓛.laws C → {f : Name} {xs : List Operand} {d : Place} {rest : Body} (T : Ended) (c : Clauses 𝓤 T)
       → Triple 𝓤 (C f) (Known 𝓛 T c)
       → (x : Bound 𝓛 T.signature) (g : (c x.0 x.3).ghost)
       → ent 𝓤 (emp 𝓤) (alive 𝓛 T.signature x.0 x.1)
@@ -54,16 +54,16 @@ module _ {M : Type 1} {𝓤 : Ura M} {𝓛 : Logic 𝓤} {K : Type 0} {Γ : List
       → Makess 𝓛 (Taken 𝓛 T x) (Ises (Taken 𝓛 T x))
       → Are (Taken 𝓛 T x) (Ises (Taken 𝓛 T x)) x.3 x.4
       → Opds K 𝓛 (raw ((Known 𝓛 T c).pre (x, g)) ∷ Γ) E xs ((Known 𝓛 T c).args (x, g))
-      → (val : (Given-back 𝓛 T x).Denot → Val)
-      → Tells (Given-back 𝓛 T x) (Is (Given-back 𝓛 T x)) (λ r. val r ∷ [])
-      → (φ : (Given-back 𝓛 T x).Denot → Type 0)
-      → ((r : (Given-back 𝓛 T x).Denot) (e : AtExit T x.0) → ent 𝓤 ((c x.0 x.3).ensures g r e) (fact 𝓤 (φ r)))
-      → ((r : (Given-back 𝓛 T x).Denot) → Is (Given-back 𝓛 T x) r (val r ∷ []) → φ r → Seq K 𝓛 Γ (lands C Λ E d (val r) rest q))
+      → (val : (GivenBack 𝓛 T x).Denot → Val)
+      → Tells (GivenBack 𝓛 T x) (Is (GivenBack 𝓛 T x)) (λ r. val r ∷ [])
+      → (φ : (GivenBack 𝓛 T x).Denot → Type 0)
+      → ((r : (GivenBack 𝓛 T x).Denot) (e : AtExit T x.0) → ent 𝓤 ((c x.0 x.3).ensures g r e) (fact 𝓤 (φ r)))
+      → ((r : (GivenBack 𝓛 T x).Denot) → Is (GivenBack 𝓛 T x) r (val r ∷ []) → φ r → Seq K 𝓛 Γ (lands C Λ E d (val r) rest q))
       → Seq K 𝓛 Γ (runs C Λ E (seq (call f xs d) rest) q)
-  calls-plain t fm {d = d} {rest = rest} T c known x g up req mk are os val tells φ says k =
+  calls_plain t fm {d = d} {rest = rest} T c known x g up req mk are os val tells φ says k =
       let κs = x.0 in
       let a = x.3 in
-      let R = Given-back 𝓛 T x in
+      let R = GivenBack 𝓛 T x in
       let Ins = Taken 𝓛 T x in
       let none = emp∗ 𝓤 (emp 𝓤) in
       use0 𝓛 (raw ((Known 𝓛 T c).pre (x, g)))
@@ -88,9 +88,9 @@ module _ {M : Type 1} {𝓤 : Ura M} {𝓛 : Logic 𝓤} {K : Type 0} {Γ : List
   -- a local is freed that holds something
   open 𝓛 use {H}
 
-  pub free-full : K → {τ : Ty} {b : ℕ} {v : Val} {E : Env 𝓤 H} {g : Goal 𝓤 H}
+  pub free_full : K → {τ : Ty} {b : ℕ} {v : Val} {E : Env 𝓤 H} {g : Goal 𝓤 H}
       → Step K 𝓛 Γ (frees E g) (‵ (fat full_share τ b 0 v) ∷ ‵ (fdies τ b) ∷ Γ) (frees ((τ, b) ∷ E) g)
-  free-full t = step (λ s. forget t 0 refl $ free1 t $ s)
+  free_full t = step (λ s. forget t 0 refl $ free1 t $ s)
 
   -- a local is read: entry n of the context is its cell
   pub var : K → (n : ℕ) {E : Env 𝓤 H} {i : ℕ} {q : Share} {v : Val} → nth 𝓛 n Γ ≡ ‵ (fat q (spot_of 𝓤 H E i).0 (spot_of 𝓤 H E i).1 0 v)

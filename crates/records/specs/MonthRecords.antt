@@ -5,22 +5,22 @@ use Rattle.rows.specs.Reply.{Reply, answer, refused}
 use Rattle.records.specs.declared.MonthRecord.{MonthRecord}
 
 -- the record that four numbers are
-abbrev pub asRecord : ℕ → ℕ → ℕ → ℕ → MonthRecord
-asRecord a b c d = record { first = a; length = b; number = c; leap = d }
+abbrev pub as_record : ℕ → ℕ → ℕ → ℕ → MonthRecord
+as_record a b c d = record { first = a; length = b; number = c; leap = d }
 
 -- the records that a list of numbers holds, four numbers each
-unfoldable pub inRecords : List ℕ → List MonthRecord
-inRecords [] = []
-inRecords (a ∷ []) = []
-inRecords (a ∷ b ∷ []) = []
-inRecords (a ∷ b ∷ c ∷ []) = []
-inRecords (a ∷ b ∷ c ∷ d ∷ rest) = asRecord a b c d ∷ inRecords rest
+unfoldable pub in_records : List ℕ → List MonthRecord
+in_records [] = []
+in_records (a ∷ []) = []
+in_records (a ∷ b ∷ []) = []
+in_records (a ∷ b ∷ c ∷ []) = []
+in_records (a ∷ b ∷ c ∷ d ∷ rest) = as_record a b c d ∷ in_records rest
 
 -- the one at its start
-unfoldable pub recordIn : List ℕ → MonthRecord
-recordIn numbers = asRecord (get_or numbers 0 0) (get_or numbers 1 0) (get_or numbers 2 0) (get_or numbers 3 0)
+unfoldable pub record_in : List ℕ → MonthRecord
+record_in numbers = as_record (get_or numbers 0 0) (get_or numbers 1 0) (get_or numbers 2 0) (get_or numbers 3 0)
 
 -- how many records an answer tells of
-abbrev pub writtenIn : Reply ℕ → ℕ
-writtenIn (answer n) = n
-writtenIn (refused k) = 0
+abbrev pub written_in : Reply ℕ → ℕ
+written_in (answer n) = n
+written_in (refused k) = 0

@@ -1,15 +1,15 @@
 // A year's list and a run of years, as month records in a lent row of structs.
 ghost use Rattle.std.specs.Prelude.{◌≡◌, suc, ◌+◌, ◌≤◌, length};
-ghost use Rattle.rows.specs.Reply.{answerSaid};
-ghost use Rattle.rows.specs.Row.{rowAfter};
-ghost use Rattle.measure.specs.Units.{lastYear};
+ghost use Rattle.rows.specs.Reply.{answer_said};
+ghost use Rattle.rows.specs.Row.{row_after};
+ghost use Rattle.measure.specs.Units.{last_year};
 ghost use Rattle.measure.specs.Epoch.{shoushi};
-ghost use Rattle.moons.specs.Lunation.{lastLunation};
-ghost use Rattle.month_law.specs.Calendar.{head, monthsIn};
+ghost use Rattle.moons.specs.Lunation.{last_lunation};
+ghost use Rattle.month_law.specs.Calendar.{head, months_in};
 ghost use Rattle.edition.specs.Edition.{calendar};
-ghost use Rattle.lists.specs.Records.{recordOf, recordsOf};
-ghost use Rattle.lists.specs.Lists.{run_of, listReply, runReply};
-ghost use Rattle.records.specs.MonthRecords.{recordIn, inRecords, writtenIn};
+ghost use Rattle.lists.specs.Records.{record_of, records_of};
+ghost use Rattle.lists.specs.Lists.{run_of, list_reply, run_reply};
+ghost use Rattle.records.specs.MonthRecords.{record_in, in_records, written_in};
 
 use measure::LAST_YEAR;
 use rows::Answer;
@@ -25,8 +25,8 @@ pub struct MonthRecord {
 // The records of year n from the row's start; how many there are. A year past the last is refused with 1, then a row that is too short
 // with 4.
 pub fn year_records(n: u64, row: &mut [MonthRecord]) -> Answer
-    ensures { (answerSaid result ≡ listReply shoushi n (length row.old))
-        × (row.new ≡ rowAfter (listReply shoushi n (length row.old)) (inRecords (recordsOf (calendar shoushi) n (monthsIn (calendar shoushi) n))) row.old) }
+    ensures { (answer_said result ≡ list_reply shoushi n (length row.old))
+        × (row.new ≡ row_after (list_reply shoushi n (length row.old)) (in_records (records_of (calendar shoushi) n (months_in (calendar shoushi) n))) row.old) }
 {
     run_records(n, 1, row)
 }
@@ -35,8 +35,8 @@ pub fn year_records(n: u64, row: &mut [MonthRecord]) -> Answer
 // first head on; how many there are. No years, a first year past the last or a run past it are refused with 1, then a row that is too
 // short with 4.
 pub fn run_records(n: u64, count: u64, row: &mut [MonthRecord]) -> Answer
-    ensures { (answerSaid result ≡ runReply shoushi n count (length row.old))
-        × (row.new ≡ rowAfter (runReply shoushi n count (length row.old)) (inRecords (run_of (calendar shoushi) n count)) row.old) }
+    ensures { (answer_said result ≡ run_reply shoushi n count (length row.old))
+        × (row.new ≡ row_after (run_reply shoushi n count (length row.old)) (in_records (run_of (calendar shoushi) n count)) row.old) }
 {
     let reply = run_reply(n, count, row.len());
     let months = written_in(reply);
@@ -52,8 +52,8 @@ pub fn run_records(n: u64, count: u64, row: &mut [MonthRecord]) -> Answer
 
 // The record of the month that is i after month l.
 fn record_of(l: u64, i: usize) -> MonthRecord
-    requires { l + i ≤ lastLunation }
-    ensures { result ≡ recordIn (recordOf (calendar shoushi) (l + i)) }
+    requires { l + i ≤ last_lunation }
+    ensures { result ≡ record_in (record_of (calendar shoushi) (l + i)) }
 {
     let month = l + i as u64;
     let first = edition::first_day(month);
@@ -69,7 +69,7 @@ fn record_of(l: u64, i: usize) -> MonthRecord
 
 // The reply to a run where the row has room for so many records.
 fn run_reply(n: u64, count: u64, room: usize) -> Answer
-    ensures { answerSaid result ≡ runReply shoushi n count room }
+    ensures { answer_said result ≡ run_reply shoushi n count room }
 {
     match lists::run_asked(n, count, room as u64) {
         Answer::Refused(k) => Answer::Refused(k),
@@ -79,7 +79,7 @@ fn run_reply(n: u64, count: u64, room: usize) -> Answer
 
 // How many records a reply tells of: none where it refuses.
 fn written_in(reply: Answer) -> usize
-    ensures { result ≡ writtenIn (answerSaid reply) }
+    ensures { result ≡ written_in (answer_said reply) }
 {
     match reply {
         Answer::Number(months) => months as usize,
@@ -89,7 +89,7 @@ fn written_in(reply: Answer) -> usize
 
 // The head of year n; 0 stands for that of a year past the one after the last.
 fn head_for(n: u64) -> u64
-    ensures { n ≤ suc lastYear → result ≡ head (calendar shoushi) n }
+    ensures { n ≤ suc last_year → result ≡ head (calendar shoushi) n }
 {
     if LAST_YEAR + 1 < n {
         return 0;

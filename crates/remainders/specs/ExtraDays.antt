@@ -2,42 +2,42 @@
 -- Assumes nothing.
 use Rattle.std.specs.Prelude.{◌≡◌, refl, ℕ, ◌+◌, ◌*◌, ◌-◌, ◌/◌}
 use Rattle.rows.specs.Choice.{if◌then◌else◌, ◌≤?◌}
-use Rattle.rows.specs.Reply.{Reply, answer, refused, outside, refuseIf}
-use Rattle.measure.specs.Units.{day, termStep, monthDeficit}
+use Rattle.rows.specs.Reply.{Reply, answer, refused, outside, refuse_if}
+use Rattle.measure.specs.Units.{day, term_step, month_deficit}
 use Rattle.remainders.specs.declared.DaysAnswer.{DaysAnswer}
 use Rattle.remainders.specs.declared.DaysAnswer.TheVariants.{Add, Nothing, Refused}
 
 -- "none" is an answer like any other
 pub data Found : Type 0 where
   none : Found
-  daysOn : ℕ → Found
+  days_on : ℕ → Found
 
 -- 000:198 and 199: a term is so much over 15 days
-abbrev pub extraLimit : ℕ
-extraLimit = 78_156_250
+abbrev pub extra_limit : ℕ
+extra_limit = 78_156_250
 
-abbrev pub termExcess : ℕ
-termExcess = 21_843_750
+abbrev pub term_excess : ℕ
+term_excess = 21_843_750
 
-identities : (termStep ≡ 15 * day + termExcess) × (day ≡ extraLimit + termExcess)
+identities : (term_step ≡ 15 * day + term_excess) × (day ≡ extra_limit + term_excess)
 identities = (refl, refl)
 
 -- 000:236-239, of a term's remainder
-unfoldable pub extraDay : ℕ → Found
-extraDay r = if extraLimit ≤? r then daysOn ((termStep - 15 * r) / termExcess) else none
+unfoldable pub extra_day : ℕ → Found
+extra_day r = if extra_limit ≤? r then days_on ((term_step - 15 * r) / term_excess) else none
 
 -- 000:241-244, of a mean new moon's remainder
-unfoldable pub vanishingDay : ℕ → Found
-vanishingDay r = if r ≤? monthDeficit then daysOn (30 * r / monthDeficit) else none
+unfoldable pub vanishing_day : ℕ → Found
+vanishing_day r = if r ≤? month_deficit then days_on (30 * r / month_deficit) else none
 
-unfoldable pub extraReply : ℕ → Reply Found
-extraReply r = refuseIf (day ≤? r) outside (answer (extraDay r))
+unfoldable pub extra_reply : ℕ → Reply Found
+extra_reply r = refuse_if (day ≤? r) outside (answer (extra_day r))
 
-unfoldable pub vanishingReply : ℕ → Reply Found
-vanishingReply r = refuseIf (day ≤? r) outside (answer (vanishingDay r))
+unfoldable pub vanishing_reply : ℕ → Reply Found
+vanishing_reply r = refuse_if (day ≤? r) outside (answer (vanishing_day r))
 
 -- the paper's reply that each case stands for
-abbrev pub daysSaid : DaysAnswer → Reply Found
-daysSaid (Add n) = answer (daysOn n)
-daysSaid Nothing = answer none
-daysSaid (Refused k) = refused k
+abbrev pub days_said : DaysAnswer → Reply Found
+days_said (Add n) = answer (days_on n)
+days_said Nothing = answer none
+days_said (Refused k) = refused k

@@ -1,7 +1,7 @@
 // What a remainder tells: the double-hour and the ke, and extra and vanishing days.
 ghost use Rattle.std.specs.Prelude.{◌≡◌};
-ghost use Rattle.remainders.specs.Hours.{hourReply, hourSaid};
-ghost use Rattle.remainders.specs.ExtraDays.{extraReply, vanishingReply, daysSaid};
+ghost use Rattle.remainders.specs.Hours.{hour_reply, hour_said};
+ghost use Rattle.remainders.specs.ExtraDays.{extra_reply, vanishing_reply, days_said};
 
 use measure::{DAY, FEN, MONTH, TERM_STEP};
 use rows::OUTSIDE;
@@ -16,7 +16,7 @@ const KE: u64 = 1_200 * FEN;
 
 // The double-hour and the ke of a remainder. A day or more is outside.
 pub fn double_hour(remainder: u64) -> HourAnswer
-    ensures { hourSaid result ≡ hourReply remainder }
+    ensures { hour_said result ≡ hour_reply remainder }
 {
     if DAY <= remainder {
         return HourAnswer::Refused(OUTSIDE);
@@ -44,7 +44,7 @@ const MONTH_DEFICIT: u64 = 30 * DAY - MONTH;
 
 // The extra day of a term with this remainder. A day or more is outside.
 pub fn extra_day(remainder: u64) -> DaysAnswer
-    ensures { daysSaid result ≡ extraReply remainder }
+    ensures { days_said result ≡ extra_reply remainder }
 {
     if DAY <= remainder {
         return DaysAnswer::Refused(OUTSIDE);
@@ -57,7 +57,7 @@ pub fn extra_day(remainder: u64) -> DaysAnswer
 
 // The vanishing day of a mean new moon with this remainder. A day or more is outside.
 pub fn vanishing_day(remainder: u64) -> DaysAnswer
-    ensures { daysSaid result ≡ vanishingReply remainder }
+    ensures { days_said result ≡ vanishing_reply remainder }
 {
     if DAY <= remainder {
         return DaysAnswer::Refused(OUTSIDE);

@@ -1,54 +1,54 @@
 -- The line of text that is written for each reply, and the room that it asks for.
 -- Assumes nothing.
 use Rattle.std.specs.Prelude.{List, [], ◌∷◌, ℕ}
-use Rattle.rows.specs.Reply.{badLine}
-use Rattle.measure.specs.Units.{day as oneDay, fen, miao, year as solarYear, halfYear, month as lunarMonth, quarterStep, termStep, pentadStep, earthStep, anomalisticMonth, anomalisticHalf}
+use Rattle.rows.specs.Reply.{bad_line}
+use Rattle.measure.specs.Units.{day as oneDay, fen, miao, year as solarYear, half_year, month as lunarMonth, quarter_step, term_step, pentad_step, earth_step, anomalistic_month, anomalistic_half}
 use Rattle.measure.specs.Epoch.{shoushi}
 use Rattle.words.specs.Ascii.{bytes_of}
 use Rattle.texts.specs.Text.{filled}
 use Rattle.questions.specs.DeskReply.{DeskReply, malformed, number, moment, signed, month, name, hour, days, terms, year, years, sheet, constants, help}
-use Rattle.replies.specs.LineText.{text_of, refusalText, numberText, nameText, hourText, daysText, signedText, monthText, momentText, lineRoom}
-use Rattle.replies.specs.ListText.{listText, recordsText, sheetRoom, yearsRoom}
+use Rattle.replies.specs.LineText.{text_of, refusal_text, number_text, name_text, hour_text, days_text, signed_text, month_text, moment_text, line_room}
+use Rattle.replies.specs.ListText.{list_text, records_text, sheet_room, years_room}
 
-unfoldable pub constantsText : List ℕ
-constantsText =
+unfoldable pub constants_text : List ℕ
+constants_text =
     filled
     (bytes_of "day=% fen=% miao=% year=% half-year=% month=% quarter=% term=% pentad=% earth=% anomalistic-month=% anomalistic-half=% solstice-epoch=% leap-epoch=% anomaly-epoch=%\n")
-    (oneDay ∷ fen ∷ miao ∷ solarYear ∷ halfYear ∷ lunarMonth ∷ quarterStep ∷ termStep ∷ pentadStep ∷ earthStep ∷ anomalisticMonth ∷ anomalisticHalf ∷ shoushi.solstice ∷ shoushi.leapRemainder ∷ shoushi.anomaly ∷ [])
+    (oneDay ∷ fen ∷ miao ∷ solarYear ∷ half_year ∷ lunarMonth ∷ quarter_step ∷ term_step ∷ pentad_step ∷ earth_step ∷ anomalistic_month ∷ anomalistic_half ∷ shoushi.solstice ∷ shoushi.leap_remainder ∷ shoushi.anomaly ∷ [])
 
-unfoldable pub helpText : List ℕ
-helpText =
+unfoldable pub help_text : List ℕ
+help_text =
     bytes_of
     "questions: constants, solstice N, term N I, pentad N I P, earth N I, terms N, mean L Q, true L Q, solar L Q, lunar L Q, correction L Q, motion L Q, solar-at fast|slow T, lunar-at quick|tardy T, motion-at quick|tardy K, name D, hour R, extra R, vanishing R, head N, day D, back N P M, year N, years N C, sheet [name P N|stem P S|branch P B|length P D|leap P].., help\n"
 
-unfoldable pub replyText : DeskReply → List ℕ
-replyText malformed = refusalText badLine
-replyText (number r) = text_of numberText r
-replyText (moment r) = text_of momentText r
-replyText (signed r) = text_of signedText r
-replyText (month r) = text_of monthText r
-replyText (name n) = nameText n
-replyText (hour r) = text_of hourText r
-replyText (days r) = text_of daysText r
-replyText (terms r) = text_of listText r
-replyText (year r) = text_of recordsText r
-replyText (years r) = text_of recordsText r
-replyText (sheet r) = text_of listText r
-replyText constants = constantsText
-replyText help = helpText
+unfoldable pub reply_text : DeskReply → List ℕ
+reply_text malformed = refusal_text bad_line
+reply_text (number r) = text_of number_text r
+reply_text (moment r) = text_of moment_text r
+reply_text (signed r) = text_of signed_text r
+reply_text (month r) = text_of month_text r
+reply_text (name n) = name_text n
+reply_text (hour r) = text_of hour_text r
+reply_text (days r) = text_of days_text r
+reply_text (terms r) = text_of list_text r
+reply_text (year r) = text_of records_text r
+reply_text (years r) = text_of records_text r
+reply_text (sheet r) = text_of list_text r
+reply_text constants = constants_text
+reply_text help = help_text
 
-unfoldable pub roomOf : DeskReply → ℕ
-roomOf malformed = lineRoom
-roomOf (number r) = lineRoom
-roomOf (moment r) = lineRoom
-roomOf (signed r) = lineRoom
-roomOf (month r) = lineRoom
-roomOf (name n) = lineRoom
-roomOf (hour r) = lineRoom
-roomOf (days r) = lineRoom
-roomOf (terms r) = lineRoom
-roomOf (year r) = lineRoom
-roomOf (years r) = yearsRoom
-roomOf (sheet r) = sheetRoom
-roomOf constants = lineRoom
-roomOf help = lineRoom
+unfoldable pub room_of : DeskReply → ℕ
+room_of malformed = line_room
+room_of (number r) = line_room
+room_of (moment r) = line_room
+room_of (signed r) = line_room
+room_of (month r) = line_room
+room_of (name n) = line_room
+room_of (hour r) = line_room
+room_of (days r) = line_room
+room_of (terms r) = line_room
+room_of (year r) = line_room
+room_of (years r) = years_room
+room_of (sheet r) = sheet_room
+room_of constants = line_room
+room_of help = line_room

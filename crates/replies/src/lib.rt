@@ -4,9 +4,9 @@ mod list_texts;
 
 ghost use Rattle.std.specs.Prelude.{◌≡◌, ◌≤◌, length};
 ghost use Rattle.rows.specs.Row.{over};
-ghost use Rattle.questions.specs.DeskReply.{deskSaid, Lies};
-ghost use Rattle.replies.specs.LineText.{lineRoom};
-ghost use Rattle.replies.specs.ReplyText.{constantsText, helpText, replyText, roomOf};
+ghost use Rattle.questions.specs.DeskReply.{desk_said, Lies};
+ghost use Rattle.replies.specs.LineText.{line_room};
+ghost use Rattle.replies.specs.ReplyText.{constants_text, help_text, reply_text, room_of};
 
 use crate::line_texts::{
     put_days, put_hour, put_moment, put_month, put_name, put_one, put_refusal, put_signed,
@@ -18,9 +18,9 @@ use texts::fill;
 
 // The line of an answer, from the row's start; how many bytes it has. Whoever asks has shown that the row has room for it.
 pub fn put_reply(r: DeskAnswer, numbers: &[u64], row: &mut [u8]) -> usize
-    requires { (lineRoom ≤ length row.old) × Lies r (length numbers.now) × (roomOf (deskSaid r numbers.now) ≤ length row.old) }
-    ensures value { result ≡ length (replyText (deskSaid r numbers.now)) }
-    ensures row_after { row.new ≡ over (replyText (deskSaid r numbers.now)) row.old }
+    requires { (line_room ≤ length row.old) × Lies r (length numbers.now) × (room_of (desk_said r numbers.now) ≤ length row.old) }
+    ensures value { result ≡ length (reply_text (desk_said r numbers.now)) }
+    ensures writes { row.new ≡ over (reply_text (desk_said r numbers.now)) row.old }
 {
     match r {
         DeskAnswer::Malformed => put_refusal(BAD_LINE, row),
@@ -41,9 +41,9 @@ pub fn put_reply(r: DeskAnswer, numbers: &[u64], row: &mut [u8]) -> usize
 }
 
 fn put_constants(row: &mut [u8]) -> usize
-    requires { lineRoom ≤ length row.old }
-    ensures value { result ≡ length constantsText }
-    ensures row_after { row.new ≡ over constantsText row.old }
+    requires { line_room ≤ length row.old }
+    ensures value { result ≡ length constants_text }
+    ensures writes { row.new ≡ over constants_text row.old }
 {
     let values = [
         measure::DAY,
@@ -74,9 +74,9 @@ fn put_constants(row: &mut [u8]) -> usize
 }
 
 fn put_help(row: &mut [u8]) -> usize
-    requires { lineRoom ≤ length row.old }
-    ensures value { result ≡ length helpText }
-    ensures row_after { row.new ≡ over helpText row.old }
+    requires { line_room ≤ length row.old }
+    ensures value { result ≡ length help_text }
+    ensures writes { row.new ≡ over help_text row.old }
 {
     fill(
         b"questions: constants, \

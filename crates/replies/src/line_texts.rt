@@ -1,12 +1,12 @@
 // The line of each answer that is no list: a refusal, a number, a running time, a signed number, a month, a name, an hour, days to add.
 ghost use Rattle.std.specs.Prelude.{◌≡◌, ◌≤◌, length};
-ghost use Rattle.rows.specs.Reply.{answerSaid};
+ghost use Rattle.rows.specs.Reply.{answer_said};
 ghost use Rattle.rows.specs.Row.{over};
-ghost use Rattle.signed.specs.Signed.{signedSaid};
-ghost use Rattle.remainders.specs.Hours.{hourSaid};
-ghost use Rattle.remainders.specs.ExtraDays.{daysSaid};
-ghost use Rattle.months.specs.Month.{monthSaid, monthAnswerSaid};
-ghost use Rattle.replies.specs.LineText.{text_of, refusalText, numberText, nameText, hourText, daysText, signedText, monthText, momentText, lineRoom};
+ghost use Rattle.signed.specs.Signed.{signed_said};
+ghost use Rattle.remainders.specs.Hours.{hour_said};
+ghost use Rattle.remainders.specs.ExtraDays.{days_said};
+ghost use Rattle.months.specs.Month.{month_said, month_answer_said};
+ghost use Rattle.replies.specs.LineText.{text_of, refusal_text, number_text, name_text, hour_text, days_text, signed_text, month_text, moment_text, line_room};
 
 use measure::Name;
 use months::{Month, MonthAnswer};
@@ -16,17 +16,17 @@ use signed::SignedAnswer;
 use texts::fill;
 
 pub(crate) fn put_refusal(k: u64, row: &mut [u8]) -> usize
-    requires { lineRoom ≤ length row.old }
-    ensures value { result ≡ length (refusalText k) }
-    ensures row_after { row.new ≡ over (refusalText k) row.old }
+    requires { line_room ≤ length row.old }
+    ensures value { result ≡ length (refusal_text k) }
+    ensures writes { row.new ≡ over (refusal_text k) row.old }
 {
     fill(b"refused %\n", &[k], row)
 }
 
 pub(crate) fn put_one(a: Answer, row: &mut [u8]) -> usize
-    requires { lineRoom ≤ length row.old }
-    ensures value { result ≡ length (text_of numberText (answerSaid a)) }
-    ensures row_after { row.new ≡ over (text_of numberText (answerSaid a)) row.old }
+    requires { line_room ≤ length row.old }
+    ensures value { result ≡ length (text_of number_text (answer_said a)) }
+    ensures writes { row.new ≡ over (text_of number_text (answer_said a)) row.old }
 {
     match a {
         Answer::Refused(k) => put_refusal(k, row),
@@ -35,9 +35,9 @@ pub(crate) fn put_one(a: Answer, row: &mut [u8]) -> usize
 }
 
 pub(crate) fn put_moment(a: Answer, row: &mut [u8]) -> usize
-    requires { lineRoom ≤ length row.old }
-    ensures value { result ≡ length (text_of momentText (answerSaid a)) }
-    ensures row_after { row.new ≡ over (text_of momentText (answerSaid a)) row.old }
+    requires { line_room ≤ length row.old }
+    ensures value { result ≡ length (text_of moment_text (answer_said a)) }
+    ensures writes { row.new ≡ over (text_of moment_text (answer_said a)) row.old }
 {
     match a {
         Answer::Refused(k) => put_refusal(k, row),
@@ -47,9 +47,9 @@ pub(crate) fn put_moment(a: Answer, row: &mut [u8]) -> usize
 
 // A running time with its day, its remainder and the day's name.
 fn put_time(t: u64, row: &mut [u8]) -> usize
-    requires { lineRoom ≤ length row.old }
-    ensures value { result ≡ length (momentText t) }
-    ensures row_after { row.new ≡ over (momentText t) row.old }
+    requires { line_room ≤ length row.old }
+    ensures value { result ≡ length (moment_text t) }
+    ensures writes { row.new ≡ over (moment_text t) row.old }
 {
     let day = measure::day_of(t);
     let name = measure::name_of(day);
@@ -58,9 +58,9 @@ fn put_time(t: u64, row: &mut [u8]) -> usize
 }
 
 pub(crate) fn put_signed(a: SignedAnswer, row: &mut [u8]) -> usize
-    requires { lineRoom ≤ length row.old }
-    ensures value { result ≡ length (text_of signedText (signedSaid a)) }
-    ensures row_after { row.new ≡ over (text_of signedText (signedSaid a)) row.old }
+    requires { line_room ≤ length row.old }
+    ensures value { result ≡ length (text_of signed_text (signed_said a)) }
+    ensures writes { row.new ≡ over (text_of signed_text (signed_said a)) row.old }
 {
     match a {
         SignedAnswer::Refused(k) => put_refusal(k, row),
@@ -70,9 +70,9 @@ pub(crate) fn put_signed(a: SignedAnswer, row: &mut [u8]) -> usize
 
 // A negative number has a sign before its magnitude.
 fn put_integer(z: i64, row: &mut [u8]) -> usize
-    requires { lineRoom ≤ length row.old }
-    ensures value { result ≡ length (signedText z) }
-    ensures row_after { row.new ≡ over (signedText z) row.old }
+    requires { line_room ≤ length row.old }
+    ensures value { result ≡ length (signed_text z) }
+    ensures writes { row.new ≡ over (signed_text z) row.old }
 {
     let magnitude = signed::magnitude_of(z);
     if z < 0 {
@@ -83,9 +83,9 @@ fn put_integer(z: i64, row: &mut [u8]) -> usize
 }
 
 pub(crate) fn put_month(a: MonthAnswer, row: &mut [u8]) -> usize
-    requires { lineRoom ≤ length row.old }
-    ensures value { result ≡ length (text_of monthText (monthAnswerSaid a)) }
-    ensures row_after { row.new ≡ over (text_of monthText (monthAnswerSaid a)) row.old }
+    requires { line_room ≤ length row.old }
+    ensures value { result ≡ length (text_of month_text (month_answer_said a)) }
+    ensures writes { row.new ≡ over (text_of month_text (month_answer_said a)) row.old }
 {
     match a {
         MonthAnswer::Refused(k) => put_refusal(k, row),
@@ -95,9 +95,9 @@ pub(crate) fn put_month(a: MonthAnswer, row: &mut [u8]) -> usize
 
 // Year, place and day of the month; first day and length; number and leap mark.
 fn put_fields(m: Month, row: &mut [u8]) -> usize
-    requires { lineRoom ≤ length row.old }
-    ensures value { result ≡ length (monthText (monthSaid m)) }
-    ensures row_after { row.new ≡ over (monthText (monthSaid m)) row.old }
+    requires { line_room ≤ length row.old }
+    ensures value { result ≡ length (month_text (month_said m)) }
+    ensures writes { row.new ≡ over (month_text (month_said m)) row.old }
 {
     let kind = m.kind;
     let number = months::kinds::month_number(kind);
@@ -111,17 +111,17 @@ fn put_fields(m: Month, row: &mut [u8]) -> usize
 
 // A day's name, its stem and its branch.
 pub(crate) fn put_name(n: Name, row: &mut [u8]) -> usize
-    requires { lineRoom ≤ length row.old }
-    ensures value { result ≡ length (nameText n) }
-    ensures row_after { row.new ≡ over (nameText n) row.old }
+    requires { line_room ≤ length row.old }
+    ensures value { result ≡ length (name_text n) }
+    ensures writes { row.new ≡ over (name_text n) row.old }
 {
     fill(b"% % %\n", &[n.name, n.stem, n.branch], row)
 }
 
 pub(crate) fn put_hour(h: HourAnswer, row: &mut [u8]) -> usize
-    requires { lineRoom ≤ length row.old }
-    ensures value { result ≡ length (text_of hourText (hourSaid h)) }
-    ensures row_after { row.new ≡ over (text_of hourText (hourSaid h)) row.old }
+    requires { line_room ≤ length row.old }
+    ensures value { result ≡ length (text_of hour_text (hour_said h)) }
+    ensures writes { row.new ≡ over (text_of hour_text (hour_said h)) row.old }
 {
     match h {
         HourAnswer::Refused(k) => put_refusal(k, row),
@@ -130,9 +130,9 @@ pub(crate) fn put_hour(h: HourAnswer, row: &mut [u8]) -> usize
 }
 
 pub(crate) fn put_days(d: DaysAnswer, row: &mut [u8]) -> usize
-    requires { lineRoom ≤ length row.old }
-    ensures value { result ≡ length (text_of daysText (daysSaid d)) }
-    ensures row_after { row.new ≡ over (text_of daysText (daysSaid d)) row.old }
+    requires { line_room ≤ length row.old }
+    ensures value { result ≡ length (text_of days_text (days_said d)) }
+    ensures writes { row.new ≡ over (text_of days_text (days_said d)) row.old }
 {
     match d {
         DaysAnswer::Refused(k) => put_refusal(k, row),

@@ -1,12 +1,12 @@
 // The lines of lists whose numbers a row holds: numbers one by one, and months as records.
 ghost use Rattle.std.specs.Prelude.{◌≡◌, ◌+◌, ◌*◌, ◌≤◌, ◌<◌, length, take};
 ghost use Rattle.rows.specs.Row.{over};
-ghost use Rattle.rows.specs.Reply.{answerSaid};
-ghost use Rattle.lists.specs.Records.{recordWidth};
-ghost use Rattle.texts.specs.Text.{filled, textRoom};
-ghost use Rattle.questions.specs.DeskReply.{listIn};
-ghost use Rattle.replies.specs.LineText.{text_of, item_at, lineRoom};
-ghost use Rattle.replies.specs.ListText.{itemsText, listText, recordsText, numberRoom, recordRoom, ItemsTake, HasRoom};
+ghost use Rattle.rows.specs.Reply.{answer_said};
+ghost use Rattle.lists.specs.Records.{record_width};
+ghost use Rattle.texts.specs.Text.{filled, text_room};
+ghost use Rattle.questions.specs.DeskReply.{list_in};
+ghost use Rattle.replies.specs.LineText.{text_of, item_at, line_room};
+ghost use Rattle.replies.specs.ListText.{items_text, list_text, records_text, number_room, record_room, ItemsTake, HasRoom};
 
 use crate::line_texts::put_refusal;
 use lists::year_rows::RECORD_WIDTH;
@@ -15,9 +15,9 @@ use texts::fill;
 
 // So many numbers, or the refusal.
 pub(crate) fn put_list(a: Answer, numbers: &[u64], row: &mut [u8]) -> usize
-    requires { (lineRoom ≤ length row.old) × HasRoom 1 numberRoom (answerSaid a) (length numbers.now) (length row.old) }
-    ensures value { result ≡ length (text_of listText (listIn 1 (answerSaid a) numbers.now)) }
-    ensures row_after { row.new ≡ over (text_of listText (listIn 1 (answerSaid a) numbers.now)) row.old }
+    requires { (line_room ≤ length row.old) × HasRoom 1 number_room (answer_said a) (length numbers.now) (length row.old) }
+    ensures value { result ≡ length (text_of list_text (list_in 1 (answer_said a) numbers.now)) }
+    ensures writes { row.new ≡ over (text_of list_text (list_in 1 (answer_said a) numbers.now)) row.old }
 {
     match a {
         Answer::Refused(k) => put_refusal(k, row),
@@ -27,9 +27,9 @@ pub(crate) fn put_list(a: Answer, numbers: &[u64], row: &mut [u8]) -> usize
 
 // So many months, or the refusal.
 pub(crate) fn put_months(a: Answer, numbers: &[u64], row: &mut [u8]) -> usize
-    requires { (lineRoom ≤ length row.old) × HasRoom recordWidth recordRoom (answerSaid a) (length numbers.now) (length row.old) }
-    ensures value { result ≡ length (text_of recordsText (listIn recordWidth (answerSaid a) numbers.now)) }
-    ensures row_after { row.new ≡ over (text_of recordsText (listIn recordWidth (answerSaid a) numbers.now)) row.old }
+    requires { (line_room ≤ length row.old) × HasRoom record_width record_room (answer_said a) (length numbers.now) (length row.old) }
+    ensures value { result ≡ length (text_of records_text (list_in record_width (answer_said a) numbers.now)) }
+    ensures writes { row.new ≡ over (text_of records_text (list_in record_width (answer_said a) numbers.now)) row.old }
 {
     match a {
         Answer::Refused(k) => put_refusal(k, row),
@@ -41,9 +41,9 @@ pub(crate) fn put_months(a: Answer, numbers: &[u64], row: &mut [u8]) -> usize
 
 // So many items of a template that takes `width` numbers, and the line end; of none it is said that there are none.
 fn put_items(item: &[u8], width: usize, count: usize, numbers: &[u64], row: &mut [u8]) -> usize
-    requires { (0 < length item.now) × (0 < width) × ItemsTake item.now width × (width * count ≤ length numbers.now) × (textRoom item.now * count + 100 ≤ length row.old) }
-    ensures value { result ≡ length (itemsText item.now width (take (width * count) numbers.now)) }
-    ensures row_after { row.new ≡ over (itemsText item.now width (take (width * count) numbers.now)) row.old }
+    requires { (0 < length item.now) × (0 < width) × ItemsTake item.now width × (width * count ≤ length numbers.now) × (text_room item.now * count + 100 ≤ length row.old) }
+    ensures value { result ≡ length (items_text item.now width (take (width * count) numbers.now)) }
+    ensures writes { row.new ≡ over (items_text item.now width (take (width * count) numbers.now)) row.old }
 {
     if count == 0 {
         return fill(b"none\n", &[], row);
@@ -62,10 +62,10 @@ fn put_items(item: &[u8], width: usize, count: usize, numbers: &[u64], row: &mut
 
 // The item at place i of the line: the blank before it is left out at the first.
 fn put_item(item: &[u8], i: usize, numbers: &[u64], row: &mut [u8]) -> usize
-    requires { (0 < length item.now) × (textRoom item.now ≤ length row.old) }
-    ensures upper_bound { result ≤ textRoom item.now }
+    requires { (0 < length item.now) × (text_room item.now ≤ length row.old) }
+    ensures within { result ≤ text_room item.now }
     ensures value { result ≡ length (filled (item_at item.now i) numbers.now) }
-    ensures row_after { row.new ≡ over (filled (item_at item.now i) numbers.now) row.old }
+    ensures writes { row.new ≡ over (filled (item_at item.now i) numbers.now) row.old }
 {
     if i == 0 {
         fill(&item[1..], numbers, row)

@@ -6,7 +6,7 @@ use Prim.Native.Nat.{ℕ}
 use contract.Lifetimes.{Lfts}
 use borrow.Fn.Kinds.{ParamKind, ResultKind, Out, Dens, res_t, ended_of}
 use denote.Triple.Clauses.{AtExit}
-use Rattle.rows.specs.Reply.{Reply, answer, refused, answerSaid}
+use Rattle.rows.specs.Reply.{Reply, answer, refused, answer_said}
 use Rattle.rows.specs.declared.Answer.{Answer}
 use Rattle.rows.specs.declared.Answer.TheVariants.{Number, Refused}
 
@@ -36,14 +36,14 @@ pub read_back : {A B : Type 0} (said : A → B) (meant : B → A)
     → (x y : A) (z : B) → said x ≡ z → said y ≡ z → x ≡ y
 read_back said meant back x y z p q = sym (back x) ∙ ap meant (p ∙ sym q) ∙ back y
 
-pub answerMeant : Reply ℕ → Answer
-answerMeant (answer n) = Number n
-answerMeant (refused k) = Refused k
+pub answer_meant : Reply ℕ → Answer
+answer_meant (answer n) = Number n
+answer_meant (refused k) = Refused k
 
-pub answer_back : (a : Answer) → answerMeant (answerSaid a) ≡ a
-unfolding answerMeant
+pub answer_back : (a : Answer) → answer_meant (answer_said a) ≡ a
+unfolding answer_meant
 answer_back (Number n) = refl
 answer_back (Refused k) = refl
 
-pub one_answer : (x y : Answer) (z : Reply ℕ) → answerSaid x ≡ z → answerSaid y ≡ z → x ≡ y
-one_answer = read_back answerSaid answerMeant answer_back
+pub one_answer : (x y : Answer) (z : Reply ℕ) → answer_said x ≡ z → answer_said y ≡ z → x ≡ y
+one_answer = read_back answer_said answer_meant answer_back

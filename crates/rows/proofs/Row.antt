@@ -12,18 +12,18 @@ use borrow.Rule.Slice.PartMut.{put_mid}
 use Rattle.rows.specs.Row.{listed, over}
 
 -- what a row holds, of which a list of no places leaves all
-pub over-is : {A : Type 0} (new row : List A) → over new row ≡ new ++ drop (length new) row
+pub over_is : {A : Type 0} (new row : List A) → over new row ≡ new ++ drop (length new) row
 unfolding over
-over-is new row = refl
+over_is new row = refl
 
-pub listed-none : (f : ℕ → ℕ) (i : ℕ) → listed f i 0 ≡ []
+pub listed_none : (f : ℕ → ℕ) (i : ℕ) → listed f i 0 ≡ []
 unfolding listed
-listed-none f i = refl
+listed_none f i = refl
 
-pub length-listed : (f : ℕ → ℕ) (i k : ℕ) → length (listed f i k) ≡ k
+pub length_listed : (f : ℕ → ℕ) (i k : ℕ) → length (listed f i k) ≡ k
 unfolding listed
-length-listed f i zero = refl
-length-listed f i (suc k) = ap suc (length-listed f (suc i) k)
+length_listed f i zero = refl
+length_listed f i (suc k) = ap suc (length_listed f (suc i) k)
 
 listed_suc : (f : ℕ → ℕ) (i k : ℕ) → listed f i (suc k) ≡ listed f i k ++ (f (i + k) ∷ [])
 unfolding listed
@@ -51,44 +51,44 @@ put {A} new row now v n e k h =
     ∙ ap (λ (j : ℕ). (new ++ (v ∷ [])) ++ drop j row) w
 
 -- so a list grows by its next place
-pub put-listed : (f : ℕ → ℕ) (row now : List ℕ) (n : ℕ) → now ≡ over (listed f 0 n) row → n < length row
+pub put_listed : (f : ℕ → ℕ) (row now : List ℕ) (n : ℕ) → now ≡ over (listed f 0 n) row → n < length row
     → set now n (f n) ≡ over (listed f 0 (n + 1)) row
-put-listed f row now n e h =
-    put (listed f 0 n) row now (f n) n e (length-listed f 0 n) h ∙ ap (λ (l : List ℕ). over l row) (sym (listed_more f n))
+put_listed f row now n e h =
+    put (listed f 0 n) row now (f n) n e (length_listed f 0 n) h ∙ ap (λ (l : List ℕ). over l row) (sym (listed_more f n))
 
 -- what a row holds from u on, and the row after that part is lent and comes back
-abbrev pub restFrom : {A : Type 0} → ℕ → List A → List A
-restFrom u row = take (length row - u) (drop u row)
+abbrev pub rest_from : {A : Type 0} → ℕ → List A → List A
+rest_from u row = take (length row - u) (drop u row)
 
-abbrev pub withRest : {A : Type 0} → ℕ → List A → List A → List A
-withRest u row rest = put_mid u (length row - u) row rest
+abbrev pub with_rest : {A : Type 0} → ℕ → List A → List A → List A
+with_rest u row rest = put_mid u (length row - u) row rest
 
 -- more written into the rest of a row that holds `new` and then `old`
-rest-written : {A : Type 0} (new more old : List A) (u : ℕ) → length new ≡ u
-    → withRest u (new ++ old) (over more (restFrom u (new ++ old))) ≡ new ++ (more ++ drop (length more) old)
+rest_written : {A : Type 0} (new more old : List A) (u : ℕ) → length new ≡ u
+    → with_rest u (new ++ old) (over more (rest_from u (new ++ old))) ≡ new ++ (more ++ drop (length more) old)
 unfolding over
-rest-written new more old u e =
+rest_written new more old u e =
     let left : length (new ++ old) - u ≡ length old = omega (arith, length-append new old) in
     rw (left, take_at new old u e, drop_at new old u e, take-length, drop-length, append-nil)
 
-over-append : {A : Type 0} (new more row : List A) → new ++ (more ++ drop (length more) (drop (length new) row)) ≡ over (new ++ more) row
+over_append : {A : Type 0} (new more row : List A) → new ++ (more ++ drop (length more) (drop (length new) row)) ≡ over (new ++ more) row
 unfolding over
-over-append new more row = simp (append_assoc, length-append, drop-drop)
+over_append new more row = simp (append_assoc, length-append, drop-drop)
 
 -- so a row grows by the list that is written into its rest
-pub grow : {A : Type 0} (new more row now rest : List A) (u : ℕ) → now ≡ over new row → length new ≡ u → rest ≡ over more (restFrom u now)
-    → withRest u now rest ≡ over (new ++ more) row
+pub grow : {A : Type 0} (new more row now rest : List A) (u : ℕ) → now ≡ over new row → length new ≡ u → rest ≡ over more (rest_from u now)
+    → with_rest u now rest ≡ over (new ++ more) row
 unfolding over
 grow new more row now rest u e k g =
-    rw (g, e) (rest-written new more (drop (length new) row) u k) ∙ over-append new more row
+    rw (g, e) (rest_written new more (drop (length new) row) u k) ∙ over_append new more row
 
 pub length_over : {A : Type 0} (new row : List A) → length new ≤ length row → length (over new row) ≡ length row
 unfolding over
 length_over new row h = omega (arith, length-append new (drop (length new) row), length-drop (length new) row)
 
-pub over-least : {A : Type 0} (new row : List A) → length new ≤ length (over new row)
+pub over_least : {A : Type 0} (new row : List A) → length new ≤ length (over new row)
 unfolding over
-over-least new row = omega (arith, length-append new (drop (length new) row))
+over_least new row = omega (arith, length-append new (drop (length new) row))
 
 -- what is taken of a row as far as it was written
 pub written : {A : Type 0} (new row now : List A) (u : ℕ) → length new ≡ u → now ≡ over new row → take u now ≡ new
@@ -96,13 +96,13 @@ unfolding over
 written new row now u e h = ap (take u) h ∙ take_at new (drop (length new) row) u e
 
 -- a part of a whole is written into a row that holds what of the whole comes before it
-pub more-written : {A : Type 0} (all more left row now part : List A) (used r : ℕ) → used ≤ length now → all ≡ take used now ++ (more ++ left)
-    → now ≡ over (take used now) row → r ≡ length more → part ≡ over more (restFrom used now)
-    → (all ≡ take (used + r) (withRest used now part) ++ left)
-    × (withRest used now part ≡ over (take (used + r) (withRest used now part)) row)
-more-written {A} all more left row now part used r fits whole held er ep =
+pub more_written : {A : Type 0} (all more left row now part : List A) (used r : ℕ) → used ≤ length now → all ≡ take used now ++ (more ++ left)
+    → now ≡ over (take used now) row → r ≡ length more → part ≡ over more (rest_from used now)
+    → (all ≡ take (used + r) (with_rest used now part) ++ left)
+    × (with_rest used now part ≡ over (take (used + r) (with_rest used now part)) row)
+more_written {A} all more left row now part used r fits whole held er ep =
     let p = take used now in
-    let after = withRest used now part in
+    let after = with_rest used now part in
     let w : after ≡ over (p ++ more) row = grow p more row now part used held (length-take-le used now fits) ep in
     let l : length (p ++ more) ≡ used + r = omega (arith, length-append p more, length-take-le used now fits) in
     let f : take (used + r) after ≡ p ++ more = written (p ++ more) row after (used + r) l w in (
@@ -111,11 +111,11 @@ more-written {A} all more left row now part used r fits whole held er ep =
     )
 
 -- a list and the list that goes on from its end are one list
-pub listed-append : (f : ℕ → ℕ) (i j k : ℕ) → listed f i j ++ listed f (i + j) k ≡ listed f i (j + k)
+pub listed_append : (f : ℕ → ℕ) (i j k : ℕ) → listed f i j ++ listed f (i + j) k ≡ listed f i (j + k)
 unfolding listed
-listed-append f i zero k = rw (add-zero i, zero-add k)
-listed-append f i (suc j) k =
-    rw (add-suc i j, suc-add j k, ← suc-add i j) (ap (λ (l : List ℕ). f i ∷ l) (listed-append f (suc i) j k))
+listed_append f i zero k = rw (add-zero i, zero-add k)
+listed_append f i (suc j) k =
+    rw (add-suc i j, suc-add j k, ← suc-add i j) (ap (λ (l : List ℕ). f i ∷ l) (listed_append f (suc i) j k))
 
 -- what stands at each place of a list
 from : (f : ℕ → ℕ) (i k n : ℕ) → n < k → get_or (listed f i k) n 0 ≡ f (i + n)

@@ -13,6 +13,6 @@ unfoldable pub over : {A : Type 0} → List A → List A → List A
 over new row = new ++ drop (length new) row
 
 -- an answered question writes the list, a refused one nothing
-abbrev pub rowAfter : {A : Type 0} → Reply ℕ → List A → List A → List A
-rowAfter (answer n) new row = over new row
-rowAfter (refused k) new row = row
+abbrev pub row_after : {A : Type 0} → Reply ℕ → List A → List A → List A
+row_after (answer n) new row = over new row
+row_after (refused k) new row = row

@@ -1,18 +1,18 @@
 // The winter solstice, the terms with their pentads, and the days on which earth begins to rule.
 ghost use Rattle.std.specs.Prelude.{◌≡◌, ◌+◌, ◌≤◌, ◌<◌, length};
-ghost use Rattle.rows.specs.Reply.{answerSaid};
-ghost use Rattle.measure.specs.Units.{lastYear};
+ghost use Rattle.rows.specs.Reply.{answer_said};
+ghost use Rattle.measure.specs.Units.{last_year};
 ghost use Rattle.measure.specs.Epoch.{shoushi};
-ghost use Rattle.seasons.specs.Solstice.{solstice, solsticeReply};
-ghost use Rattle.seasons.specs.Terms.{terms, term, termReply, pentadReply, earthReply, termList, termsReply};
-ghost use Rattle.rows.specs.Row.{over, rowAfter};
+ghost use Rattle.seasons.specs.Solstice.{solstice, solstice_reply};
+ghost use Rattle.seasons.specs.Terms.{terms, term, term_reply, pentad_reply, earth_reply, term_list, terms_reply};
+ghost use Rattle.rows.specs.Row.{over, row_after};
 
 use measure::{EARTH_STEP, LAST_YEAR, PENTAD_STEP, SOLSTICE_EPOCH, TERM_STEP, TERMS, YEAR};
 use rows::{Answer, NO_YEAR, OUTSIDE, SHORT_ROW};
 
 // The running time of the solstice that year n begins with. A year past the last is refused with 1.
 pub fn solstice(n: u64) -> Answer
-    ensures { answerSaid result ≡ solsticeReply shoushi n }
+    ensures { answer_said result ≡ solstice_reply shoushi n }
 {
     if LAST_YEAR < n {
         return Answer::Refused(NO_YEAR);
@@ -22,7 +22,7 @@ pub fn solstice(n: u64) -> Answer
 
 // The running time of term i of year n. After the year, a term past the last is refused with 2.
 pub fn term(n: u64, i: u64) -> Answer
-    ensures { answerSaid result ≡ termReply shoushi n i }
+    ensures { answer_said result ≡ term_reply shoushi n i }
 {
     if LAST_YEAR < n {
         return Answer::Refused(NO_YEAR);
@@ -35,7 +35,7 @@ pub fn term(n: u64, i: u64) -> Answer
 
 // The running time of pentad p of term i of year n. After the year, a term or a pentad past its last is refused with 2.
 pub fn pentad(n: u64, i: u64, p: u64) -> Answer
-    ensures { answerSaid result ≡ pentadReply shoushi n i p }
+    ensures { answer_said result ≡ pentad_reply shoushi n i p }
 {
     if LAST_YEAR < n {
         return Answer::Refused(NO_YEAR);
@@ -51,7 +51,7 @@ pub fn pentad(n: u64, i: u64, p: u64) -> Answer
 
 // When earth begins to rule before middle term i of year n. After the year, a term that has no such day is refused with 2.
 pub fn earth(n: u64, i: u64) -> Answer
-    ensures { answerSaid result ≡ earthReply shoushi n i }
+    ensures { answer_said result ≡ earth_reply shoushi n i }
 {
     if LAST_YEAR < n {
         return Answer::Refused(NO_YEAR);
@@ -64,7 +64,7 @@ pub fn earth(n: u64, i: u64) -> Answer
 
 // The running time of term i of year n, for callers that know both to be admitted.
 pub fn term_time(n: u64, i: u64) -> u64
-    requires { (n ≤ lastYear + 1) × (i < terms) }
+    requires { (n ≤ last_year + 1) × (i < terms) }
     ensures { result ≡ term shoushi n i }
 {
     n * YEAR + SOLSTICE_EPOCH + i * TERM_STEP
@@ -72,8 +72,8 @@ pub fn term_time(n: u64, i: u64) -> u64
 
 // The terms of year n from the row's start; how many there are. After the year, a row that is too short is refused with 4.
 pub fn terms(n: u64, row: &mut [u64]) -> Answer
-    ensures result_value { answerSaid result ≡ termsReply n (length row.old) }
-    ensures row_after { row.new ≡ rowAfter (termsReply n (length row.old)) (termList shoushi n) row.old }
+    ensures value { answer_said result ≡ terms_reply n (length row.old) }
+    ensures writes { row.new ≡ row_after (terms_reply n (length row.old)) (term_list shoushi n) row.old }
 {
     if LAST_YEAR < n {
         return Answer::Refused(NO_YEAR);
@@ -87,8 +87,8 @@ pub fn terms(n: u64, row: &mut [u64]) -> Answer
 
 // Each term is the one before it carried forward by one step, as learners add them up.
 fn write_terms(n: u64, row: &mut [u64])
-    requires { (n ≤ lastYear) × (terms ≤ length row.old) }
-    ensures { row.new ≡ over (termList shoushi n) row.old }
+    requires { (n ≤ last_year) × (terms ≤ length row.old) }
+    ensures { row.new ≡ over (term_list shoushi n) row.old }
 {
     let mut carried = term_time(n, 0);
     let mut i: usize = 0;

@@ -30,8 +30,8 @@ from (negsuc n) e = absurd (false≢true (sym e))
 
 -- the number is held in bits, and is tested as it is read back off them
 module _ (z : ℤ) (f : SFits w64 z) where
-  pub below-zero : lt_z (to_z w64 (of_z w64 z)) (to_z w64 (of_z w64 (pos 0))) ≡ true → Below z
-  below-zero e = below z (simp (to_z-of_z f) at e)
+  pub below_zero : lt_z (to_z w64 (of_z w64 z)) (to_z w64 (of_z w64 (pos 0))) ≡ true → Below z
+  below_zero e = below z (simp (to_z-of_z f) at e)
 
   pub from_zero : lt_z (to_z w64 (of_z w64 z)) (to_z w64 (of_z w64 (pos 0))) ≡ false → From z
   from_zero e = from z (simp (to_z-of_z f) at e)

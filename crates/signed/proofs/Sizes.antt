@@ -3,7 +3,7 @@
 use mathlib.Core.Path.{◌≡◌, refl}
 use Prim.Native.Nat.{ℕ, ◌+◌, ◌-◌, ◌≤◌}
 use native.Mathlib.Omega.{arith}
-use Rattle.signed.specs.Signed.{Signed, aheadBy, behindBy, minus}
+use Rattle.signed.specs.Signed.{Signed, ahead_by, behind_by, minus}
 
 -- both parts of a signed number together are no more than n
 abbrev pub Within : ℕ → Signed → Type 0
@@ -18,18 +18,18 @@ pub gap_is : (x y : Signed) → gap x y ≡ x.ahead + y.behind - (y.ahead + x.be
 unfolding gap
 gap_is x y = refl
 
-pub gap-sym : (x y : Signed) → gap x y ≡ gap y x
+pub gap_sym : (x y : Signed) → gap x y ≡ gap y x
 unfolding gap
-gap-sym x y = omega arith
+gap_sym x y = omega arith
 
-pub gap-triangle : (x y z : Signed) → gap x z ≤ gap x y + gap y z
+pub gap_triangle : (x y z : Signed) → gap x z ≤ gap x y + gap y z
 unfolding gap
-gap-triangle x y z = omega arith
+gap_triangle x y z = omega arith
 
-pub gap-minus : (x y x' y' : Signed) → gap (minus x y) (minus x' y') ≤ gap x x' + gap y y'
+pub gap_minus : (x y x' y' : Signed) → gap (minus x y) (minus x' y') ≤ gap x x' + gap y y'
 unfolding gap
-gap-minus x y x' y' = omega arith
+gap_minus x y x' y' = omega arith
 
-pub gap-behind : (m n : ℕ) → gap (behindBy m) (behindBy n) ≡ gap (aheadBy m) (aheadBy n)
+pub gap_behind : (m n : ℕ) → gap (behind_by m) (behind_by n) ≡ gap (ahead_by m) (ahead_by n)
 unfolding gap
-gap-behind m n = omega arith
+gap_behind m n = omega arith

@@ -11,11 +11,11 @@ pub record Signed : Type 0 where
   pub behind : ℕ
 
 -- a positive number, and a negative one
-abbrev pub aheadBy : ℕ → Signed
-aheadBy n = record { ahead = n; behind = 0 }
+abbrev pub ahead_by : ℕ → Signed
+ahead_by n = record { ahead = n; behind = 0 }
 
-abbrev pub behindBy : ℕ → Signed
-behindBy n = record { ahead = 0; behind = n }
+abbrev pub behind_by : ℕ → Signed
+behind_by n = record { ahead = 0; behind = n }
 
 abbrev pub minus : Signed → Signed → Signed
 minus x y = record { ahead = x.ahead + y.behind; behind = x.behind + y.ahead }
@@ -25,11 +25,11 @@ unfoldable pub integer : Signed → ℤ
 integer x = sub_ℕ x.ahead x.behind
 
 -- a reply with its integer
-abbrev pub asInteger : Reply Signed → Reply ℤ
-asInteger (answer x) = answer (integer x)
-asInteger (refused k) = refused k
+abbrev pub as_integer : Reply Signed → Reply ℤ
+as_integer (answer x) = answer (integer x)
+as_integer (refused k) = refused k
 
 -- the paper's reply that each case stands for
-abbrev pub signedSaid : SignedAnswer → Reply ℤ
-signedSaid (Number z) = answer z
-signedSaid (Refused k) = refused k
+abbrev pub signed_said : SignedAnswer → Reply ℤ
+signed_said (Number z) = answer z
+signed_said (Refused k) = refused k

@@ -1,7 +1,9 @@
 // Numbers with a sign: what is ahead less what is behind, and the reply that holds one.
+#![tactic(auto)]
+
 ghost use Rattle.std.specs.Prelude.{◌≡◌, nat_abs, ◌*◌, ◌≤◌};
 ghost use Rattle.measure.specs.Units.{day};
-ghost use Rattle.signed.specs.Signed.{aheadBy, behindBy, integer};
+ghost use Rattle.signed.specs.Signed.{ahead_by, behind_by, integer};
 
 // A signed number that was asked for, or a refusal's number.
 #[derive(Drop)]
@@ -13,14 +15,14 @@ pub enum SignedAnswer {
 // A positive number, and a negative one.
 pub fn ahead(magnitude: u64) -> i64
     requires { magnitude ≤ day * day }
-    ensures { result ≡ integer (aheadBy magnitude) }
+    ensures { result ≡ integer (ahead_by magnitude) }
 {
     magnitude as i64
 }
 
 pub fn behind(magnitude: u64) -> i64
     requires { magnitude ≤ day * day }
-    ensures { result ≡ integer (behindBy magnitude) }
+    ensures { result ≡ integer (behind_by magnitude) }
 {
     -(magnitude as i64)
 }

@@ -11,64 +11,64 @@ use native.Mathlib.Omega.{arith}
 use lib.ListN.{length, get_or, drop, length-append, length-drop, get_or-append}
 use lib.Seq.{drop-cons, drop-drop, get_or-drop, drop-append-le}
 use Rattle.rows.specs.Choice.{if◌then◌else◌, ◌=?◌}
-use Rattle.rows.proofs.Choice.{if-cases}
-use Rattle.texts.specs.Text.{decimal, hole, piece, numbersTaken, holes, filled, mostDigits, textRoom}
-use Rattle.texts.proofs.DecimalLaws.{decimal-most}
+use Rattle.rows.proofs.Choice.{if_cases}
+use Rattle.texts.specs.Text.{decimal, hole, piece, numbers_taken, holes, filled, most_digits, text_room}
+use Rattle.texts.proofs.DecimalLaws.{decimal_most}
 
 -- one byte more of a template, where so many numbers are written already
-pub filled-step : (t ns : List ℕ) (i j : ℕ) → i < length t
-    → filled (drop i t) (drop j ns) ≡ piece (get_or t i 0) (get_or ns j 0) ++ filled (drop (i + 1) t) (drop (j + numbersTaken (get_or t i 0)) ns)
+pub filled_step : (t ns : List ℕ) (i j : ℕ) → i < length t
+    → filled (drop i t) (drop j ns) ≡ piece (get_or t i 0) (get_or ns j 0) ++ filled (drop (i + 1) t) (drop (j + numbers_taken (get_or t i 0)) ns)
 unfolding filled
-filled-step t ns i j h =
-    rw (add-one, drop-cons t i 0 h) (rw (get_or-drop j ns 0 0, add-zero j, drop-drop (numbersTaken (get_or t i 0)) j ns))
+filled_step t ns i j h =
+    rw (add-one, drop-cons t i 0 h) (rw (get_or-drop j ns 0 0, add-zero j, drop-drop (numbers_taken (get_or t i 0)) j ns))
 
-pub piece-most : (b n : ℕ) → length (piece b n) ≤ mostDigits
+pub piece_most : (b n : ℕ) → length (piece b n) ≤ most_digits
 unfolding piece
-piece-most b n =
-    if-cases (λ (l : List ℕ). length l ≤ mostDigits) (decimal n) (b ∷ []) (b =? hole) (λ _. decimal-most n) (λ _. omega arith)
+piece_most b n =
+    if_cases (λ (l : List ℕ). length l ≤ most_digits) (decimal n) (b ∷ []) (b =? hole) (λ _. decimal_most n) (λ _. omega arith)
 
 -- so a text has room in what its template asks for
-pub filled-most : (t ns : List ℕ) → length (filled t ns) ≤ textRoom t
+pub filled_most : (t ns : List ℕ) → length (filled t ns) ≤ text_room t
 unfolding filled
-filled-most [] ns = omega arith
-filled-most (b ∷ t) ns =
+filled_most [] ns = omega arith
+filled_most (b ∷ t) ns =
     omega (
       arith,
-      length-append (piece b (get_or ns 0 0)) (filled t (drop (numbersTaken b) ns)),
-      piece-most b (get_or ns 0 0),
-      filled-most t (drop (numbersTaken b) ns),
+      length-append (piece b (get_or ns 0 0)) (filled t (drop (numbers_taken b) ns)),
+      piece_most b (get_or ns 0 0),
+      filled_most t (drop (numbers_taken b) ns),
     )
 
 -- two templates in a row: the second takes the numbers that the first leaves
-pub filled-append : (s t ns : List ℕ) → filled (s ++ t) ns ≡ filled s ns ++ filled t (drop (holes s) ns)
+pub filled_append : (s t ns : List ℕ) → filled (s ++ t) ns ≡ filled s ns ++ filled t (drop (holes s) ns)
 unfolding filled holes
-filled-append [] t ns = refl
-filled-append (b ∷ s) t ns =
+filled_append [] t ns = refl
+filled_append (b ∷ s) t ns =
     let first = piece b (get_or ns 0 0) in
-    let rest = filled s (drop (numbersTaken b) ns) in
-    ap (λ (l : List ℕ). first ++ l) (filled-append s t (drop (numbersTaken b) ns))
-    ∙ sym (append_assoc first rest (filled t (drop (holes s) (drop (numbersTaken b) ns))))
-    ∙ ap (λ (l : List ℕ). (first ++ rest) ++ filled t l) (drop-drop (holes s) (numbersTaken b) ns)
+    let rest = filled s (drop (numbers_taken b) ns) in
+    ap (λ (l : List ℕ). first ++ l) (filled_append s t (drop (numbers_taken b) ns))
+    ∙ sym (append_assoc first rest (filled t (drop (holes s) (drop (numbers_taken b) ns))))
+    ∙ ap (λ (l : List ℕ). (first ++ rest) ++ filled t l) (drop-drop (holes s) (numbers_taken b) ns)
 
-pub holes-append : (s t : List ℕ) → holes (s ++ t) ≡ holes s + holes t
+pub holes_append : (s t : List ℕ) → holes (s ++ t) ≡ holes s + holes t
 unfolding holes
-holes-append [] t = omega arith
-holes-append (b ∷ s) t = omega (arith, holes-append s t)
+holes_append [] t = omega arith
+holes_append (b ∷ s) t = omega (arith, holes_append s t)
 
 -- numbers past those that a template takes do not show
-next-piece : (b : ℕ) (ns more : List ℕ) → numbersTaken b ≤ length ns → piece b (get_or (ns ++ more) 0 0) ≡ piece b (get_or ns 0 0)
-unfolding piece numbersTaken
-next-piece b ns more h = next (b =? hole) h
+next_piece : (b : ℕ) (ns more : List ℕ) → numbers_taken b ≤ length ns → piece b (get_or (ns ++ more) 0 0) ≡ piece b (get_or ns 0 0)
+unfolding piece numbers_taken
+next_piece b ns more h = next (b =? hole) h
   where
     next : (t : Bool) → (if t then 1 else 0) ≤ length ns
         → (if t then decimal (get_or (ns ++ more) 0 0) else b ∷ []) ≡ (if t then decimal (get_or ns 0 0) else b ∷ [])
     next true g = ap decimal (get_or-append ns more 0 0 g)
     next false g = refl
 
-pub filled-enough : (t ns more : List ℕ) → holes t ≤ length ns → filled t (ns ++ more) ≡ filled t ns
+pub filled_enough : (t ns more : List ℕ) → holes t ≤ length ns → filled t (ns ++ more) ≡ filled t ns
 unfolding filled holes
-filled-enough [] ns more h = refl
-filled-enough (b ∷ t) ns more h =
-    let some : numbersTaken b ≤ length ns = omega arith in
-    let left : holes t ≤ length (drop (numbersTaken b) ns) = simp length-drop (omega arith) in
-    rw (next-piece b ns more some, drop-append-le (numbersTaken b) ns more some, filled-enough t (drop (numbersTaken b) ns) more left)
+filled_enough [] ns more h = refl
+filled_enough (b ∷ t) ns more h =
+    let some : numbers_taken b ≤ length ns = omega arith in
+    let left : holes t ≤ length (drop (numbers_taken b) ns) = simp length-drop (omega arith) in
+    rw (next_piece b ns more some, drop-append-le (numbers_taken b) ns more some, filled_enough t (drop (numbers_taken b) ns) more left)

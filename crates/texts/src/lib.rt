@@ -1,8 +1,8 @@
 // Texts with holes: each % of a template stands for the next number, in decimal.
 ghost use Rattle.std.specs.Prelude.{◌≡◌, ◌≤◌, length, get_or};
-ghost use Rattle.rows.specs.Reply.{answerSaid};
-ghost use Rattle.rows.specs.Row.{over, rowAfter};
-ghost use Rattle.texts.specs.Text.{decimal, piece, numbersTaken, filled, mostDigits, textRoom, textReply};
+ghost use Rattle.rows.specs.Reply.{answer_said};
+ghost use Rattle.rows.specs.Row.{over, row_after};
+ghost use Rattle.texts.specs.Text.{decimal, piece, numbers_taken, filled, most_digits, text_room, text_reply};
 
 use rows::{Answer, SHORT_ROW};
 
@@ -14,8 +14,8 @@ pub const MOST_DIGITS: usize = 20;
 // The template with its numbers, from the row's start; how many bytes it has. A hole for which no number is left takes 0. A row with
 // less than 20 bytes for each byte of the template is refused with 4.
 pub fn write_text(template: &[u8], numbers: &[u64], row: &mut [u8]) -> Answer
-    ensures result_value { answerSaid result ≡ textReply template.now numbers.now (length row.old) }
-    ensures row_after { row.new ≡ rowAfter (textReply template.now numbers.now (length row.old)) (filled template.now numbers.now) row.old }
+    ensures value { answer_said result ≡ text_reply template.now numbers.now (length row.old) }
+    ensures writes { row.new ≡ row_after (text_reply template.now numbers.now (length row.old)) (filled template.now numbers.now) row.old }
 {
     if row.len() / MOST_DIGITS < template.len() {
         return Answer::Refused(SHORT_ROW);
@@ -25,9 +25,9 @@ pub fn write_text(template: &[u8], numbers: &[u64], row: &mut [u8]) -> Answer
 
 // The same, for a caller whose row has the room.
 pub fn fill(template: &[u8], numbers: &[u64], row: &mut [u8]) -> usize
-    requires { textRoom template.now ≤ length row.old }
+    requires { text_room template.now ≤ length row.old }
     ensures value { result ≡ length (filled template.now numbers.now) }
-    ensures row_after { row.new ≡ over (filled template.now numbers.now) row.old }
+    ensures writes { row.new ≡ over (filled template.now numbers.now) row.old }
 {
     let mut used: usize = 0;
     let mut next: usize = 0;
@@ -43,10 +43,10 @@ pub fn fill(template: &[u8], numbers: &[u64], row: &mut [u8]) -> usize
 
 // What a byte of a template stands for, where n is the next number.
 fn put_piece(b: u8, n: u64, row: &mut [u8]) -> usize
-    requires { mostDigits ≤ length row.old }
-    ensures upper_bound { result ≤ mostDigits }
+    requires { most_digits ≤ length row.old }
+    ensures within { result ≤ most_digits }
     ensures value { result ≡ length (piece b n) }
-    ensures row_after { row.new ≡ over (piece b n) row.old }
+    ensures writes { row.new ≡ over (piece b n) row.old }
 {
     if b == HOLE {
         return put_number(n, row);
@@ -56,8 +56,8 @@ fn put_piece(b: u8, n: u64, row: &mut [u8]) -> usize
 }
 
 fn numbers_taken(b: u8) -> usize
-    ensures value { result ≡ numbersTaken b }
-    ensures upper_bound { result ≤ 1 }
+    ensures value { result ≡ numbers_taken b }
+    ensures within { result ≤ 1 }
 {
     if b == HOLE { 1 } else { 0 }
 }
@@ -70,10 +70,10 @@ fn number_at(numbers: &[u64], i: usize) -> u64
 
 // A number in decimal.
 fn put_number(n: u64, row: &mut [u8]) -> usize
-    requires { mostDigits ≤ length row.old }
-    ensures upper_bound { result ≤ mostDigits }
+    requires { most_digits ≤ length row.old }
+    ensures within { result ≤ most_digits }
     ensures value { result ≡ length (decimal n) }
-    ensures row_after { row.new ≡ over (decimal n) row.old }
+    ensures writes { row.new ≡ over (decimal n) row.old }
 {
     let mut digits = [0u8; MOST_DIGITS];
     let k = io::decimal(n, &mut digits);

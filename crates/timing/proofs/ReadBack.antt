@@ -7,36 +7,36 @@ use borrow.Author.Tests.{ne_eqb}
 use Rattle.rows.specs.Choice.{if◌then◌else◌, ◌=?◌}
 use Rattle.rows.specs.Reply.{Reply, answer, refused}
 use Rattle.measure.specs.Epoch.{shoushi}
-use Rattle.seasons.specs.Terms.{termsReply}
-use Rattle.seasons.proofs.TermLaws.{terms-cases}
-use Rattle.moons.specs.TrueMoon.{trueReply}
-use Rattle.moons.proofs.Admitted.{true-cases}
-use Rattle.lists.specs.Lists.{runReply}
-use Rattle.lists.proofs.Asked.{run-cases}
-use Rattle.timing.specs.Timed.{numberTold}
+use Rattle.seasons.specs.Terms.{terms_reply}
+use Rattle.seasons.proofs.TermLaws.{terms_cases}
+use Rattle.moons.specs.TrueMoon.{true_reply}
+use Rattle.moons.proofs.Admitted.{true_cases}
+use Rattle.lists.specs.Lists.{run_reply}
+use Rattle.lists.proofs.Asked.{run_cases}
+use Rattle.timing.specs.Timed.{number_told}
 use Rattle.timing.specs.declared.Timed.{Timed}
 
 -- what a struct says
-unfoldable pub numberRead : Timed → Reply ℕ
-numberRead t = if t.refused =? 0 then answer t.number else refused t.refused
+unfoldable pub number_read : Timed → Reply ℕ
+number_read t = if t.refused =? 0 then answer t.number else refused t.refused
 
 -- a reply that is read back as it was
 abbrev Back : Reply ℕ → Type 0
-Back r = numberRead (numberTold r) ≡ r
+Back r = number_read (number_told r) ≡ r
 
-answered-back : (n : ℕ) → Back (answer n)
-unfolding numberRead
-answered-back n = refl
+answered_back : (n : ℕ) → Back (answer n)
+unfolding number_read
+answered_back n = refl
 
-refused-back : (k : ℕ) → Back (refused (suc k))
-unfolding numberRead
-refused-back k = rw (ne_eqb (suc k) 0 (λ e. omega arith))
+refused_back : (k : ℕ) → Back (refused (suc k))
+unfolding number_read
+refused_back k = rw (ne_eqb (suc k) 0 (λ e. omega arith))
 
-pub true-moon-back : (l q : ℕ) → Back (trueReply shoushi l q)
-true-moon-back l q = true-cases Back shoushi l q (refused-back 1) (answered-back _)
+pub true_moon_back : (l q : ℕ) → Back (true_reply shoushi l q)
+true_moon_back l q = true_cases Back shoushi l q (refused_back 1) (answered_back _)
 
-pub terms-back : (n room : ℕ) → Back (termsReply n room)
-terms-back n room = terms-cases Back n room (refused-back 0) (refused-back 3) (answered-back _)
+pub terms_back : (n room : ℕ) → Back (terms_reply n room)
+terms_back n room = terms_cases Back n room (refused_back 0) (refused_back 3) (answered_back _)
 
-pub run-back : (n k room : ℕ) → Back (runReply shoushi n k room)
-run-back n k room = run-cases Back shoushi n room (refused-back 0) (refused-back 3) k λ _ _. answered-back _
+pub run_back : (n k room : ℕ) → Back (run_reply shoushi n k room)
+run_back n k room = run_cases Back shoushi n room (refused_back 0) (refused_back 3) k λ _ _. answered_back _

@@ -1,14 +1,14 @@
 // What the benchmarks call: proved functions behind C's interface.
 ghost use Rattle.std.specs.Prelude.{◌≡◌, ◌/◌, length};
 ghost use Rattle.measure.specs.Epoch.{shoushi};
-ghost use Rattle.rows.specs.Reply.{answerSaid};
-ghost use Rattle.rows.specs.Row.{rowAfter};
-ghost use Rattle.seasons.specs.Terms.{termList, termsReply};
-ghost use Rattle.moons.specs.TrueMoon.{trueReply};
+ghost use Rattle.rows.specs.Reply.{answer_said};
+ghost use Rattle.rows.specs.Row.{row_after};
+ghost use Rattle.seasons.specs.Terms.{term_list, terms_reply};
+ghost use Rattle.moons.specs.TrueMoon.{true_reply};
 ghost use Rattle.edition.specs.Edition.{calendar};
-ghost use Rattle.lists.specs.Records.{recordWidth};
-ghost use Rattle.lists.specs.Lists.{run_of, runReply};
-ghost use Rattle.timing.specs.Timed.{numberTold};
+ghost use Rattle.lists.specs.Records.{record_width};
+ghost use Rattle.lists.specs.Lists.{run_of, run_reply};
+ghost use Rattle.timing.specs.Timed.{number_told};
 
 use measure::{LAST_YEAR, TERMS};
 use rows::{Answer, NO_YEAR, SHORT_ROW};
@@ -25,7 +25,7 @@ pub struct Timed {
 // The true moon's running time.
 #[unsafe(no_mangle)]
 pub extern "C" fn timing_true_moon(l: u64, q: u64) -> Timed
-    ensures { result ≡ numberTold (trueReply shoushi l q) }
+    ensures { result ≡ number_told (true_reply shoushi l q) }
 {
     number_told(moons::true_moon(l, q))
 }
@@ -33,8 +33,8 @@ pub extern "C" fn timing_true_moon(l: u64, q: u64) -> Timed
 // The records of so many years; how many there are.
 #[unsafe(no_mangle)]
 pub extern "C" fn timing_run(row: &mut [u64], n: u64, count: u64) -> Timed
-    ensures value { result ≡ numberTold (runReply shoushi n count (length row.old / recordWidth)) }
-    ensures row_after { row.new ≡ rowAfter (runReply shoushi n count (length row.old / recordWidth)) (run_of (calendar shoushi) n count) row.old }
+    ensures value { result ≡ number_told (run_reply shoushi n count (length row.old / record_width)) }
+    ensures writes { row.new ≡ row_after (run_reply shoushi n count (length row.old / record_width)) (run_of (calendar shoushi) n count) row.old }
 {
     number_told(lists::run(n, count, row))
 }
@@ -42,8 +42,8 @@ pub extern "C" fn timing_run(row: &mut [u64], n: u64, count: u64) -> Timed
 // The terms of a year, carried from one to the next; how many there are.
 #[unsafe(no_mangle)]
 pub extern "C" fn timing_terms(row: &mut [u64], n: u64) -> Timed
-    ensures value { result ≡ numberTold (termsReply n (length row.old)) }
-    ensures row_after { row.new ≡ rowAfter (termsReply n (length row.old)) (termList shoushi n) row.old }
+    ensures value { result ≡ number_told (terms_reply n (length row.old)) }
+    ensures writes { row.new ≡ row_after (terms_reply n (length row.old)) (term_list shoushi n) row.old }
 {
     number_told(seasons::terms(n, row))
 }
@@ -51,8 +51,8 @@ pub extern "C" fn timing_terms(row: &mut [u64], n: u64) -> Timed
 // The same, each multiplied anew: what carrying them is timed against.
 #[unsafe(no_mangle)]
 pub extern "C" fn timing_terms_anew(row: &mut [u64], n: u64) -> Timed
-    ensures value { result ≡ numberTold (termsReply n (length row.old)) }
-    ensures row_after { row.new ≡ rowAfter (termsReply n (length row.old)) (termList shoushi n) row.old }
+    ensures value { result ≡ number_told (terms_reply n (length row.old)) }
+    ensures writes { row.new ≡ row_after (terms_reply n (length row.old)) (term_list shoushi n) row.old }
 {
     if LAST_YEAR < n {
         return number_told(Answer::Refused(NO_YEAR));
@@ -69,7 +69,7 @@ pub extern "C" fn timing_terms_anew(row: &mut [u64], n: u64) -> Timed
 }
 
 fn number_told(a: Answer) -> Timed
-    ensures { result ≡ numberTold (answerSaid a) }
+    ensures { result ≡ number_told (answer_said a) }
 {
     match a {
         Answer::Number(n) => Timed {

@@ -7,31 +7,31 @@ use native.Mathlib.Numerals.{add-one}
 use native.Mathlib.Omega.{arith}
 use lib.ListN.{length, take, get_or, length-append}
 use lib.Seq.{take-suc, length-take-le}
-use Rattle.viewer.specs.Bytes.{numberBytes, low_first, lowFirstBytes}
+use Rattle.viewer.specs.Bytes.{number_bytes, low_first, low_first_bytes}
 
-length-low-first : (n : ℕ) → length (low_first n) ≡ numberBytes
+length_low_first : (n : ℕ) → length (low_first n) ≡ number_bytes
 unfolding low_first
-length-low-first n = refl
+length_low_first n = refl
 
-bytes-append : (xs ys : List ℕ) → lowFirstBytes (xs ++ ys) ≡ lowFirstBytes xs ++ lowFirstBytes ys
-unfolding lowFirstBytes
-bytes-append [] ys = refl
-bytes-append (x ∷ xs) ys =
-    ap (λ (l : List ℕ). low_first x ++ l) (bytes-append xs ys) ∙ sym (append_assoc (low_first x) (lowFirstBytes xs) (lowFirstBytes ys))
+bytes_append : (xs ys : List ℕ) → low_first_bytes (xs ++ ys) ≡ low_first_bytes xs ++ low_first_bytes ys
+unfolding low_first_bytes
+bytes_append [] ys = refl
+bytes_append (x ∷ xs) ys =
+    ap (λ (l : List ℕ). low_first x ++ l) (bytes_append xs ys) ∙ sym (append_assoc (low_first x) (low_first_bytes xs) (low_first_bytes ys))
 
-length-bytes : (xs : List ℕ) → length (lowFirstBytes xs) ≡ numberBytes * length xs
-unfolding lowFirstBytes
-length-bytes [] = refl
-length-bytes (x ∷ xs) = simp length-append (omega (arith, length-low-first x, length-bytes xs))
+length_bytes : (xs : List ℕ) → length (low_first_bytes xs) ≡ number_bytes * length xs
+unfolding low_first_bytes
+length_bytes [] = refl
+length_bytes (x ∷ xs) = simp length-append (omega (arith, length_low_first x, length_bytes xs))
 
 -- the bytes of the first i numbers of a row
 module _ (xs : List ℕ) (i : ℕ) where
-  pub length-bytes-taken : i ≤ length xs → length (lowFirstBytes (take i xs)) ≡ i * numberBytes
-  length-bytes-taken h = omega (arith, length-bytes (take i xs), length-take-le i xs h)
+  pub length_bytes_taken : i ≤ length xs → length (low_first_bytes (take i xs)) ≡ i * number_bytes
+  length_bytes_taken h = omega (arith, length_bytes (take i xs), length-take-le i xs h)
 
   -- and of one more
-  pub bytes-more : i < length xs → lowFirstBytes (take (i + 1) xs) ≡ lowFirstBytes (take i xs) ++ low_first (get_or xs i 0)
-  unfolding lowFirstBytes low_first
-  bytes-more h =
-      ap (λ (k : ℕ). lowFirstBytes (take k xs)) (add-one i) ∙ ap lowFirstBytes (take-suc xs i 0 h)
-      ∙ bytes-append (take i xs) (get_or xs i 0 ∷ [])
+  pub bytes_more : i < length xs → low_first_bytes (take (i + 1) xs) ≡ low_first_bytes (take i xs) ++ low_first (get_or xs i 0)
+  unfolding low_first_bytes low_first
+  bytes_more h =
+      ap (λ (k : ℕ). low_first_bytes (take k xs)) (add-one i) ∙ ap low_first_bytes (take-suc xs i 0 h)
+      ∙ bytes_append (take i xs) (get_or xs i 0 ∷ [])

@@ -5,40 +5,40 @@ use mathlib.Core.Path.{◌≡◌, refl, sym, ap₂}
 use Prim.Native.Nat.{ℕ, ◌+◌, ◌*◌, ◌/◌, ◌%◌, ◌<◌}
 use native.Mathlib.Nat.{div-div-eq-div-mul}
 use native.Mathlib.Omega.{arith}
-use Rattle.viewer.specs.Bytes.{low_first, lowFirstBytes}
+use Rattle.viewer.specs.Bytes.{low_first, low_first_bytes}
 
 -- the number that four bytes say, low byte first
 abbrev joined : ℕ → ℕ → ℕ → ℕ → ℕ
 joined a b c d = a + 256 * b + 65_536 * c + 16_777_216 * d
 
-by-quotients : (n a b c : ℕ) → a ≡ n / 256 → b ≡ a / 256 → c ≡ b / 256 → n < 4_294_967_296
+by_quotients : (n a b c : ℕ) → a ≡ n / 256 → b ≡ a / 256 → c ≡ b / 256 → n < 4_294_967_296
     → joined (n % 256) (a % 256) (b % 256) (c % 256) ≡ n
-by-quotients n a b c ea eb ec h = let small : c < 256 = omega arith in omega arith
+by_quotients n a b c ea eb ec h = let small : c < 256 = omega arith in omega arith
 
 joined_back : (n : ℕ) → n < 4_294_967_296 → joined (n % 256) (n / 256 % 256) (n / 65_536 % 256) (n / 16_777_216 % 256) ≡ n
 joined_back n h =
-    by-quotients n (n / 256) (n / 65_536) (n / 16_777_216) refl (sym (div-div-eq-div-mul n 256 256))
+    by_quotients n (n / 256) (n / 65_536) (n / 16_777_216) refl (sym (div-div-eq-div-mul n 256 256))
     (sym (div-div-eq-div-mul n 65_536 256)) h
 
 -- the numbers that a row of bytes says, four bytes each
-unfoldable pub numbersRead : List ℕ → List ℕ
-numbersRead (a ∷ b ∷ c ∷ d ∷ rest) = joined a b c d ∷ numbersRead rest
-numbersRead (a ∷ b ∷ c ∷ []) = []
-numbersRead (a ∷ b ∷ []) = []
-numbersRead (a ∷ []) = []
-numbersRead [] = []
+unfoldable pub numbers_read : List ℕ → List ℕ
+numbers_read (a ∷ b ∷ c ∷ d ∷ rest) = joined a b c d ∷ numbers_read rest
+numbers_read (a ∷ b ∷ c ∷ []) = []
+numbers_read (a ∷ b ∷ []) = []
+numbers_read (a ∷ []) = []
+numbers_read [] = []
 
 -- a row of numbers of 32 bits
 unfoldable pub Small : List ℕ → Type 0
 Small [] = Unit {0}
 Small (n ∷ ns) = (n < 4_294_967_296) × Small ns
 
-pub small-append : (xs ys : List ℕ) → Small xs → Small ys → Small (xs ++ ys)
+pub small_append : (xs ys : List ℕ) → Small xs → Small ys → Small (xs ++ ys)
 unfolding Small
-small-append [] ys h g = g
-small-append (x ∷ xs) ys h g = (h.0, small-append xs ys h.1 g)
+small_append [] ys h g = g
+small_append (x ∷ xs) ys h g = (h.0, small_append xs ys h.1 g)
 
-pub bytes_back : (ns : List ℕ) → Small ns → numbersRead (lowFirstBytes ns) ≡ ns
-unfolding numbersRead lowFirstBytes low_first Small
+pub bytes_back : (ns : List ℕ) → Small ns → numbers_read (low_first_bytes ns) ≡ ns
+unfolding numbers_read low_first_bytes low_first Small
 bytes_back [] h = refl
 bytes_back (n ∷ ns) h = ap₂ ◌∷◌ (joined_back n h.0) (bytes_back ns h.1)

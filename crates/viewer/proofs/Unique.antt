@@ -3,12 +3,12 @@
 use mathlib.Core.Path.{◌∙◌, sym}
 use Rattle.rows.proofs.Determined.{OneOutcome, OneReply}
 use Rattle.viewer.proofs.lengadriu_day.Kinds as day
-use Rattle.viewer.proofs.lengadriu_day.Reads as day-reads
+use Rattle.viewer.proofs.lengadriu_day.Reads as day_reads
 use Rattle.viewer.proofs.lengadriu_year.Kinds as year
-use Rattle.viewer.proofs.lengadriu_year.Reads as year-reads
+use Rattle.viewer.proofs.lengadriu_year.Reads as year_reads
 
-pub lengadriu-day-unique : OneReply day.ps day.r day-reads.Post
-lengadriu-day-unique κs a x y s t p q = p ∙ sym q
+pub lengadriu_day_unique : OneReply day.ps day.r day_reads.Post
+lengadriu_day_unique κs a x y s t p q = p ∙ sym q
 
-pub lengadriu-year-unique : OneOutcome year.ps year.r year-reads.Post (λ κs s. s.0.now)
-lengadriu-year-unique κs a x y s t p q = (p.0 ∙ sym q.0, p.1 ∙ sym q.1)
+pub lengadriu_year_unique : OneOutcome year.ps year.r year_reads.Post (λ κs s. s.0.now)
+lengadriu_year_unique κs a x y s t p q = (p.0 ∙ sym q.0, p.1 ∙ sym q.1)

@@ -7,72 +7,72 @@ use Prim.Native.Nat.{ℕ, ◌*◌, ◌≤◌, ◌<◌}
 use native.Mathlib.Omega.{arith}
 use lib.ListN.{length, take, drop}
 use lib.Seq.{take_at}
-use Rattle.rows.specs.Reply.{answer, refused, noYear, shortRow, answerSaid}
-use Rattle.rows.specs.Row.{over, rowAfter}
-use Rattle.measure.specs.Units.{lastYear}
+use Rattle.rows.specs.Reply.{answer, refused, no_year, short_row, answer_said}
+use Rattle.rows.specs.Row.{over, row_after}
+use Rattle.measure.specs.Units.{last_year}
 use Rattle.measure.specs.Epoch.{shoushi}
 use Rattle.rows.specs.declared.Answer.{Answer}
 use Rattle.rows.specs.declared.Answer.TheVariants.{Number, Refused}
-use Rattle.rows.proofs.Choice.{lt-or-ge}
-use Rattle.month_law.specs.Calendar.{Calendar, monthsIn}
+use Rattle.rows.proofs.Choice.{lt_or_ge}
+use Rattle.month_law.specs.Calendar.{Calendar, months_in}
 use Rattle.edition.specs.Edition.{calendar}
-use Rattle.month_law.proofs.Lists.{months-in-most}
-use Rattle.edition.proofs.Edition.{shoushi-lawful}
-use Rattle.lists.specs.Records.{recordWidth, yearRoom, recordsOf}
-use Rattle.lists.specs.Lists.{listReply}
-use Rattle.lists.proofs.Asked.{list-late, list-short, list-answered}
-use Rattle.lists.proofs.RecordLaws.{length-records}
+use Rattle.month_law.proofs.Lists.{months_in_most}
+use Rattle.edition.proofs.Edition.{shoushi_lawful}
+use Rattle.lists.specs.Records.{record_width, year_room, records_of}
+use Rattle.lists.specs.Lists.{list_reply}
+use Rattle.lists.proofs.Asked.{list_late, list_short, list_answered}
+use Rattle.lists.proofs.RecordLaws.{length_records}
 
 abbrev c : Calendar
 c = calendar shoushi
 
 -- where the row with room got a number
-module _ (n k : ℕ) (got : Answer) (ensured : answerSaid got ≡ listReply shoushi n yearRoom) (case : got ≡ Number k) where
-  said : listReply shoushi n yearRoom ≡ answer k
-  said = sym ensured ∙ ap answerSaid case
+module _ (n k : ℕ) (got : Answer) (ensured : answer_said got ≡ list_reply shoushi n year_room) (case : got ≡ Number k) where
+  said : list_reply shoushi n year_room ≡ answer k
+  said = sym ensured ∙ ap answer_said case
 
-  admitted : n ≤ lastYear
+  admitted : n ≤ last_year
   admitted =
       ⊎_elim
-      (λ (h : lastYear < n). let never : ◌≡◌ {A = ℕ} 0 1 = cc (said, list-late shoushi n yearRoom h) in omega arith)
-      (λ (h : n ≤ lastYear). h)
-      (lt-or-ge lastYear n)
+      (λ (h : last_year < n). let never : ◌≡◌ {A = ℕ} 0 1 = cc (said, list_late shoushi n year_room h) in omega arith)
+      (λ (h : n ≤ last_year). h)
+      (lt_or_ge last_year n)
 
-  counted : k ≡ monthsIn c n
-  counted = cc (said, list-answered shoushi n yearRoom admitted (omega arith))
+  counted : k ≡ months_in c n
+  counted = cc (said, list_answered shoushi n year_room admitted (omega arith))
 
-  pub count_most : k ≤ yearRoom
-  count_most = omega (arith, counted, months-in-most c shoushi-lawful n)
+  pub count_most : k ≤ year_room
+  count_most = omega (arith, counted, months_in_most c shoushi_lawful n)
 
-  pub short-refused : (room : ℕ) → room < yearRoom → listReply shoushi n room ≡ refused shortRow
-  short-refused room h = list-short shoushi n room admitted h
+  pub short_refused : (room : ℕ) → room < year_room → list_reply shoushi n room ≡ refused short_row
+  short_refused room h = list_short shoushi n room admitted h
 
-  pub long-answered : (room : ℕ) → yearRoom ≤ room → listReply shoushi n room ≡ answer k
-  long-answered room h = list-answered shoushi n room admitted h ∙ ap answer (sym counted)
+  pub long_answered : (room : ℕ) → year_room ≤ room → list_reply shoushi n room ≡ answer k
+  long_answered room h = list_answered shoushi n room admitted h ∙ ap answer (sym counted)
 
   -- the numbers that it was given
-  pub numbers-given : (row now : List ℕ) → now ≡ rowAfter (listReply shoushi n yearRoom) (recordsOf c n (monthsIn c n)) row
-      → take (k * recordWidth) now ≡ recordsOf c n (monthsIn c n)
+  pub numbers_given : (row now : List ℕ) → now ≡ row_after (list_reply shoushi n year_room) (records_of c n (months_in c n)) row
+      → take (k * record_width) now ≡ records_of c n (months_in c n)
   unfolding over
-  numbers-given row now e =
-      let records : List ℕ = recordsOf c n (monthsIn c n) in
-      let long : length (recordsOf c n (monthsIn c n)) ≡ k * recordWidth =
-      omega (arith, length-records c n (monthsIn c n), counted) in
-      rw (e, said) (take_at records (drop (length records) row) (k * recordWidth) long)
+  numbers_given row now e =
+      let records : List ℕ = records_of c n (months_in c n) in
+      let long : length (records_of c n (months_in c n)) ≡ k * record_width =
+      omega (arith, length_records c n (months_in c n), counted) in
+      rw (e, said) (take_at records (drop (length records) row) (k * record_width) long)
 
 -- where it was refused
-module _ (n k : ℕ) (got : Answer) (ensured : answerSaid got ≡ listReply shoushi n yearRoom) (case : got ≡ Refused k) where
-  none : listReply shoushi n yearRoom ≡ refused k
-  none = sym ensured ∙ ap answerSaid case
+module _ (n k : ℕ) (got : Answer) (ensured : answer_said got ≡ list_reply shoushi n year_room) (case : got ≡ Refused k) where
+  none : list_reply shoushi n year_room ≡ refused k
+  none = sym ensured ∙ ap answer_said case
 
-  late : lastYear < n
+  late : last_year < n
   late =
-      ⊎_elim (λ (h : lastYear < n). h)
-      (λ (h : n ≤ lastYear). let never : ◌≡◌ {A = ℕ} 0 1 = cc (none, list-answered shoushi n yearRoom h (omega arith)) in omega arith)
-      (lt-or-ge lastYear n)
+      ⊎_elim (λ (h : last_year < n). h)
+      (λ (h : n ≤ last_year). let never : ◌≡◌ {A = ℕ} 0 1 = cc (none, list_answered shoushi n year_room h (omega arith)) in omega arith)
+      (lt_or_ge last_year n)
 
-  pub year-refused : k ≡ noYear
-  year-refused = cc (none, list-late shoushi n yearRoom late)
+  pub year_refused : k ≡ no_year
+  year_refused = cc (none, list_late shoushi n year_room late)
 
-  pub refused-in-any : (room : ℕ) → listReply shoushi n room ≡ refused k
-  refused-in-any room = list-late shoushi n room late ∙ ap refused (sym year-refused)
+  pub refused_in_any : (room : ℕ) → list_reply shoushi n room ≡ refused k
+  refused_in_any room = list_late shoushi n room late ∙ ap refused (sym year_refused)

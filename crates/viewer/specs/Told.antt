@@ -2,14 +2,14 @@
 -- Assumes nothing.
 use Rattle.std.specs.Prelude.{ℕ, ◌<◌}
 use Rattle.rows.specs.Reply.{Reply, answer, refused}
-use Rattle.months.specs.Kind.{number_in, markIn}
+use Rattle.months.specs.Kind.{number_in, mark_in}
 use Rattle.months.specs.Month.{MonthOfDay}
 use Rattle.viewer.specs.declared.Day.{Day}
 use Rattle.viewer.specs.declared.Count.{Count}
 
 -- a month has refused 0; a refusal has its number there, and all else 0
-abbrev pub dayTold : Reply MonthOfDay → Day
-dayTold (answer m) =
+abbrev pub day_told : Reply MonthOfDay → Day
+day_told (answer m) =
     record {
       first = m.first;
       year = m.year;
@@ -17,15 +17,15 @@ dayTold (answer m) =
       day = m.day;
       length = m.length;
       number = number_in m.kind;
-      leap = markIn m.kind;
+      leap = mark_in m.kind;
       refused = 0;
     }
-dayTold (refused k) = record { first = 0; year = 0; place = 0; day = 0; length = 0; number = 0; leap = 0; refused = k }
+day_told (refused k) = record { first = 0; year = 0; place = 0; day = 0; length = 0; number = 0; leap = 0; refused = k }
 
 -- how many records were written, or why none
-abbrev pub countTold : Reply ℕ → Count
-countTold (answer n) = record { refused = 0; records = n }
-countTold (refused k) = record { refused = k; records = 0 }
+abbrev pub count_told : Reply ℕ → Count
+count_told (answer n) = record { refused = 0; records = n }
+count_told (refused k) = record { refused = k; records = 0 }
 
 -- a month whose numbers the struct's fields can hold
 pub record FitsDay (m : MonthOfDay) : Type 0 where
@@ -35,4 +35,4 @@ pub record FitsDay (m : MonthOfDay) : Type 0 where
   pub day : m.day < 256
   pub length : m.length < 256
   pub number : number_in m.kind < 256
-  pub mark : markIn m.kind < 256
+  pub mark : mark_in m.kind < 256

@@ -4,15 +4,15 @@ mod record_bytes;
 ghost use Rattle.std.specs.Prelude.{◌≡◌, ◌<◌};
 ghost use Rattle.measure.specs.Epoch.{shoushi};
 ghost use Rattle.rows.specs.Reply.{answer, refused};
-ghost use Rattle.rows.specs.Row.{rowAfter};
-ghost use Rattle.month_law.specs.Calendar.{monthsIn};
+ghost use Rattle.rows.specs.Row.{row_after};
+ghost use Rattle.month_law.specs.Calendar.{months_in};
 ghost use Rattle.edition.specs.Edition.{calendar};
-ghost use Rattle.months.specs.Month.{dayReply, monthSaid};
-ghost use Rattle.lists.specs.Records.{recordsOf};
-ghost use Rattle.lists.specs.Lists.{listReply};
-ghost use Rattle.viewer.specs.Bytes.{lowFirstBytes};
-ghost use Rattle.viewer.specs.Room.{roomIn};
-ghost use Rattle.viewer.specs.Told.{FitsDay, dayTold, countTold};
+ghost use Rattle.months.specs.Month.{day_reply, month_said};
+ghost use Rattle.lists.specs.Records.{records_of};
+ghost use Rattle.lists.specs.Lists.{list_reply};
+ghost use Rattle.viewer.specs.Bytes.{low_first_bytes};
+ghost use Rattle.viewer.specs.Room.{room_in};
+ghost use Rattle.viewer.specs.Told.{FitsDay, day_told, count_told};
 
 use crate::record_bytes::{NUMBER_BYTES, put_numbers};
 use lists::year_rows::RECORD_WIDTH;
@@ -45,7 +45,7 @@ pub struct Count {
 // The month in which a day lies. A day outside the calendar is refused with 3.
 #[unsafe(no_mangle)]
 pub extern "C" fn lengadriu_day(d: u64) -> Day
-    ensures { result ≡ dayTold (dayReply shoushi d) }
+    ensures { result ≡ day_told (day_reply shoushi d) }
 {
     match months::month_of(d) {
         MonthAnswer::Month(m) => month_told(m),
@@ -57,8 +57,8 @@ pub extern "C" fn lengadriu_day(d: u64) -> Day
 // room for 13 records with 4.
 #[unsafe(no_mangle)]
 pub extern "C" fn lengadriu_year(row: &mut [u8], n: u64) -> Count
-    ensures value { result ≡ countTold (listReply shoushi n (roomIn row.old)) }
-    ensures row_after { row.new ≡ rowAfter (listReply shoushi n (roomIn row.old)) (lowFirstBytes (recordsOf (calendar shoushi) n (monthsIn (calendar shoushi) n))) row.old }
+    ensures value { result ≡ count_told (list_reply shoushi n (room_in row.old)) }
+    ensures writes { row.new ≡ row_after (list_reply shoushi n (room_in row.old)) (low_first_bytes (records_of (calendar shoushi) n (months_in (calendar shoushi) n))) row.old }
 {
     let mut numbers = [0u64; YEAR_NUMBERS];
     match lists::list(n, &mut numbers) {
@@ -79,8 +79,8 @@ pub extern "C" fn lengadriu_year(row: &mut [u8], n: u64) -> Count
 const RECORD_BYTES: usize = RECORD_WIDTH * NUMBER_BYTES;
 
 fn month_told(m: Month) -> Day
-    requires { FitsDay (monthSaid m) }
-    ensures { result ≡ dayTold (answer (monthSaid m)) }
+    requires { FitsDay (month_said m) }
+    ensures { result ≡ day_told (answer (month_said m)) }
 {
     let kind = m.kind;
     Day {
@@ -97,7 +97,7 @@ fn month_told(m: Month) -> Day
 
 fn day_refused(k: u64) -> Day
     requires { k < 256 }
-    ensures { result ≡ dayTold (refused k) }
+    ensures { result ≡ day_told (refused k) }
 {
     Day {
         first: 0,
@@ -113,7 +113,7 @@ fn day_refused(k: u64) -> Day
 
 fn count_refused(k: u64) -> Count
     requires { k < 256 }
-    ensures { result ≡ countTold (refused k) }
+    ensures { result ≡ count_told (refused k) }
 {
     Count {
         refused: k as u32,

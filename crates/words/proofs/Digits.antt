@@ -9,22 +9,22 @@ use native.Mathlib.Omega.{arith}
 use borrow.Author.Tests.{le-leb, lt-leb, lt-ltb, le-ltb}
 use lib.ListN.{length, get_or}
 use Rattle.words.specs.declared.decimals.Number.TheVariants.{Value, Bad}
-use Rattle.words.specs.Number.{isDigit, digits, value, is_number, number_of}
+use Rattle.words.specs.Number.{is_digit, digits, value, is_number, number_of}
 
 -- one digit more
-pub digits_more : (s : List ℕ) (i : ℕ) → digits s (i + 1) ≡ (digits s i && isDigit (get_or s i 0))
+pub digits_more : (s : List ℕ) (i : ℕ) → digits s (i + 1) ≡ (digits s i && is_digit (get_or s i 0))
 unfolding digits
 digits_more s i = ap (digits s) (add-one i)
 
-pub value-more : (s : List ℕ) (i : ℕ) → value s (i + 1) ≡ value s i * 10 + (get_or s i 0 - 48)
+pub value_more : (s : List ℕ) (i : ℕ) → value s (i + 1) ≡ value s i * 10 + (get_or s i 0 - 48)
 unfolding value
-value-more s i = ap (value s) (add-one i)
+value_more s i = ap (value s) (add-one i)
 
 -- a byte that is no digit is not mended by what follows
-digits-stop : (s : List ℕ) (i k : ℕ) → digits s i ≡ false → digits s (i + k) ≡ false
+digits_stop : (s : List ℕ) (i k : ℕ) → digits s i ≡ false → digits s (i + k) ≡ false
 unfolding digits
-digits-stop s i zero e = rw add-zero e
-digits-stop s i (suc k) e = rw (add-suc, digits-stop s i k e)
+digits_stop s i zero e = rw add-zero e
+digits_stop s i (suc k) e = rw (add-suc, digits_stop s i k e)
 
 -- more digits write no less
 value_grows : (s : List ℕ) (i k : ℕ) → value s i ≤ value s (i + k)
@@ -41,12 +41,12 @@ module _ (s : List ℕ) where
   unfolding number_of is_number
   long h = simp (lt-leb (length s) 20 h, and-false)
 
-  pub no_digit : (i : ℕ) → i < length s → isDigit (get_or s i 0) ≡ false → number_of s ≡ Bad
+  pub no_digit : (i : ℕ) → i < length s → is_digit (get_or s i 0) ≡ false → number_of s ≡ Bad
   unfolding number_of is_number
   no_digit i h e =
       let k : i + 1 + (length s - (i + 1)) ≡ length s = omega arith in
       let w : digits s (i + 1) ≡ false = digits_more s i ∙ simp (e, and-false) in
-      let z : digits s (length s) ≡ false = ap (digits s) (sym k) ∙ digits-stop s (i + 1) (length s - (i + 1)) w in
+      let z : digits s (length s) ≡ false = ap (digits s) (sym k) ∙ digits_stop s (i + 1) (length s - (i + 1)) w in
       simp (z, and-false)
 
   pub large : (i : ℕ) → i < length s → 2 ^ 64 ≤ value s (i + 1) → number_of s ≡ Bad

@@ -7,24 +7,24 @@ use lib.Seq.{take-length}
 use native.Mathlib.Omega.{arith}
 use borrow.Author.Tests.{eq-eqb, ne_eqb}
 use Rattle.bytes.specs.Bytes.{index_of, slice}
-use Rattle.words.specs.Line.{word_of, afterWord}
+use Rattle.words.specs.Line.{word_of, after_word}
 use Rattle.words.specs.Numbers.{end_of, part_of, rest_of}
 
 -- where the word ends, as a search from the line's start answers it
-pub word-end-is : (line : List ℕ) → 0 + index_of 32 (slice 0 (length line) line) ≡ index_of 32 line
+pub word_end_is : (line : List ℕ) → 0 + index_of 32 (slice 0 (length line) line) ≡ index_of 32 line
 unfolding slice
-word-end-is line = rw take-length (omega arith)
+word_end_is line = rw take-length (omega arith)
 
 module _ (line : List ℕ) (n : ℕ) (e : n ≡ index_of 32 line) where
-  pub word-to : take (n - 0) (drop 0 line) ≡ word_of line
+  pub word_to : take (n - 0) (drop 0 line) ≡ word_of line
   unfolding word_of
-  word-to =
+  word_to =
       let z : n - 0 ≡ index_of 32 line = omega arith in
       ap (λ (k : ℕ). take k line) z
 
-  pub after-from : take (length line - n) (drop n line) ≡ afterWord line
-  unfolding afterWord
-  after-from = rw (← length-drop n line) (take-length (drop n line)) ∙ ap (λ (k : ℕ). drop k line) e
+  pub after_from : take (length line - n) (drop n line) ≡ after_word line
+  unfolding after_word
+  after_from = rw (← length-drop n line) (take-length (drop n line)) ∙ ap (λ (k : ℕ). drop k line) e
 
 -- and the part, as a search from the place after its blank does
 pub end_is : (s : List ℕ) → 1 + index_of 32 (slice 1 (length s) s) ≡ end_of s
@@ -32,13 +32,13 @@ unfolding end_of slice
 end_is s = rw take-length
 
 module _ (s : List ℕ) where
-  pub part-other : (get_or s 0 0 ≡ 32 → ⊥) → part_of s ≡ []
+  pub part_other : (get_or s 0 0 ≡ 32 → ⊥) → part_of s ≡ []
   unfolding part_of
-  part-other h = simp (ne_eqb _ _ h)
+  part_other h = simp (ne_eqb _ _ h)
 
-  pub part-to : (e : ℕ) → e ≡ end_of s → get_or s 0 0 ≡ 32 → take (e - 1) (drop 1 s) ≡ part_of s
+  pub part_to : (e : ℕ) → e ≡ end_of s → get_or s 0 0 ≡ 32 → take (e - 1) (drop 1 s) ≡ part_of s
   unfolding part_of
-  part-to e h b = simp (eq-eqb _ _ b, h)
+  part_to e h b = simp (eq-eqb _ _ b, h)
 
   pub rest_from : (e : ℕ) → e ≡ end_of s → take (length s - e) (drop e s) ≡ rest_of s
   unfolding rest_of
@@ -50,7 +50,7 @@ unfolding part_of
 part_none [] e = refl
 part_none (x ∷ xs) e = absurd (omega arith)
 
-pub rest-none : (s : List ℕ) → length s ≡ 0 → s ≡ rest_of s
+pub rest_none : (s : List ℕ) → length s ≡ 0 → s ≡ rest_of s
 unfolding rest_of end_of index_of
-rest-none [] e = refl
-rest-none (x ∷ xs) e = absurd (omega arith)
+rest_none [] e = refl
+rest_none (x ∷ xs) e = absurd (omega arith)

@@ -19,23 +19,23 @@ OneText {n} ps r Post bytes =
     → Post κs a y t
     → bytes κs x ≡ bytes κs y
 
-pub number-in-unique : OneReply own.decimals.number_in.Kinds.ps own.decimals.number_in.Kinds.r own.decimals.number_in.Reads.Post
-number-in-unique κs a x y s t p q = p ∙ sym q
+pub number_in_unique : OneReply own.decimals.number_in.Kinds.ps own.decimals.number_in.Kinds.r own.decimals.number_in.Reads.Post
+number_in_unique κs a x y s t p q = p ∙ sym q
 
-pub word-in-unique : OneText own.word_in.Kinds.ps own.word_in.Kinds.r own.word_in.Reads.Post (λ κs x. x.now)
-word-in-unique κs a x y s t p q = p ∙ sym q
+pub word_in_unique : OneText own.word_in.Kinds.ps own.word_in.Kinds.r own.word_in.Reads.Post (λ κs x. x.now)
+word_in_unique κs a x y s t p q = p ∙ sym q
 
-pub after-word-unique : OneText own.after_word.Kinds.ps own.after_word.Kinds.r own.after_word.Reads.Post (λ κs x. x.now)
-after-word-unique κs a x y s t p q = p ∙ sym q
+pub after_word_unique : OneText own.after_word.Kinds.ps own.after_word.Kinds.r own.after_word.Reads.Post (λ κs x. x.now)
+after_word_unique κs a x y s t p q = p ∙ sym q
 
-pub numbers-in-unique : OneReply own.numbers_in.Kinds.ps own.numbers_in.Kinds.r own.numbers_in.Reads.Post
-numbers-in-unique κs a x y s t p q = p ∙ sym q
+pub numbers_in_unique : OneReply own.numbers_in.Kinds.ps own.numbers_in.Kinds.r own.numbers_in.Reads.Post
+numbers_in_unique κs a x y s t p q = p ∙ sym q
 
-pub part-in-unique : OneText own.part_in.Kinds.ps own.part_in.Kinds.r own.part_in.Reads.Post (λ κs x. x.now)
-part-in-unique κs a x y s t p q = p ∙ sym q
+pub part_in_unique : OneText own.part_in.Kinds.ps own.part_in.Kinds.r own.part_in.Reads.Post (λ κs x. x.now)
+part_in_unique κs a x y s t p q = p ∙ sym q
 
-pub rest-in-unique : OneText own.rest_in.Kinds.ps own.rest_in.Kinds.r own.rest_in.Reads.Post (λ κs x. x.now)
-rest-in-unique κs a x y s t p q = p ∙ sym q
+pub rest_in_unique : OneText own.rest_in.Kinds.ps own.rest_in.Kinds.r own.rest_in.Reads.Post (λ κs x. x.now)
+rest_in_unique κs a x y s t p q = p ∙ sym q
 
-pub place-of-unique : OneReply own.place_of.Kinds.ps own.place_of.Kinds.r own.place_of.Reads.Post
-place-of-unique κs a x y s t p q = p ∙ sym q
+pub place_of_unique : OneReply own.place_of.Kinds.ps own.place_of.Kinds.r own.place_of.Reads.Post
+place_of_unique κs a x y s t p q = p ∙ sym q

@@ -14,7 +14,7 @@ chosen other word [] = other
 chosen other word (q ∷ more) = if word is q.0 then q.1 else chosen other word more
 
 -- the choice at a place, counted from 0
-unfoldable pub choiceAt : {A : Type 0} → A → Choices A → ℕ → A
-choiceAt other [] k = other
-choiceAt other (q ∷ more) zero = q.1
-choiceAt other (q ∷ more) (suc k) = choiceAt other more k
+unfoldable pub choice_at : {A : Type 0} → A → Choices A → ℕ → A
+choice_at other [] k = other
+choice_at other (q ∷ more) zero = q.1
+choice_at other (q ∷ more) (suc k) = choice_at other more k

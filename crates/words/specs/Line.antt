@@ -8,5 +8,5 @@ unfoldable pub word_of : List ℕ → List ℕ
 word_of line = take (index_of 32 line) line
 
 -- and the rest of the line, from that blank on
-unfoldable pub afterWord : List ℕ → List ℕ
-afterWord line = drop (index_of 32 line) line
+unfoldable pub after_word : List ℕ → List ℕ
+after_word line = drop (index_of 32 line) line

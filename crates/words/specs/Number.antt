@@ -4,13 +4,13 @@ use Rattle.words.specs.declared.decimals.Number.{Number}
 use Rattle.words.specs.declared.decimals.Number.TheVariants.{Value, Bad}
 
 -- `0` to `9`
-abbrev pub isDigit : ℕ → Bool
-isDigit b = leb 48 b && leb b 57
+abbrev pub is_digit : ℕ → Bool
+is_digit b = leb 48 b && leb b 57
 
 -- the first n bytes of s are digits
 unfoldable pub digits : List ℕ → ℕ → Bool
 digits s zero = true
-digits s (suc n) = digits s n && isDigit (get_or s n 0)
+digits s (suc n) = digits s n && is_digit (get_or s n 0)
 
 -- what the first n digits of s write
 unfoldable pub value : List ℕ → ℕ → ℕ

@@ -36,5 +36,5 @@ first (Value a) t = cond (is_empty t) (One a) (second a (number_of (part_of t)) 
 first Bad t = Other
 
 -- up to three numbers; Other where there are more, or something else
-unfoldable pub numbersOf : List ℕ → Numbers
-numbersOf s = cond (is_empty s) Nothing (first (number_of (part_of s)) (rest_of s))
+unfoldable pub numbers_of : List ℕ → Numbers
+numbers_of s = cond (is_empty s) Nothing (first (number_of (part_of s)) (rest_of s))

@@ -6,13 +6,13 @@ use Rattle.rows.specs.Choice.{if◌then◌else◌}
 use Rattle.words.specs.Text.{same}
 
 -- how many of the first n parts of s stand before the word
-unfoldable pub placeWithin : ℕ → List ℕ → List ℕ → ℕ
-placeWithin zero word s = 0
-placeWithin (suc n) word s =
+unfoldable pub place_within : ℕ → List ℕ → List ℕ → ℕ
+place_within zero word s = 0
+place_within (suc n) word s =
     if is_empty s then 0 else
     if same word (part_of s) then 0 else
-    suc (placeWithin n word (rest_of s))
+    suc (place_within n word (rest_of s))
 
 -- counted from 0; how many parts there are, where none is the word
-unfoldable pub placeOf : List ℕ → List ℕ → ℕ
-placeOf word s = placeWithin (length s) word s
+unfoldable pub place_of : List ℕ → List ℕ → ℕ
+place_of word s = place_within (length s) word s

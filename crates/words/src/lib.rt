@@ -2,9 +2,9 @@
 pub mod decimals;
 
 ghost use Rattle.std.specs.Prelude.{◌≡◌};
-ghost use Rattle.words.specs.Line.{word_of, afterWord};
-ghost use Rattle.words.specs.Numbers.{part_of, rest_of, first, second, third, numbersOf};
-ghost use Rattle.words.specs.Place.{placeOf};
+ghost use Rattle.words.specs.Line.{word_of, after_word};
+ghost use Rattle.words.specs.Numbers.{part_of, rest_of, first, second, third, numbers_of};
+ghost use Rattle.words.specs.Place.{place_of};
 ghost use Rattle.words.specs.declared.decimals.Number.TheVariants.{Value};
 
 use crate::decimals::{Number, number_in};
@@ -29,7 +29,7 @@ pub fn word_in<'a>(line: &'a [u8]) -> &'a [u8]
 
 // What follows that word: from the first blank on.
 pub fn after_word<'a>(line: &'a [u8]) -> &'a [u8]
-    ensures { result.now ≡ afterWord line.now }
+    ensures { result.now ≡ after_word line.now }
 {
     let from = bytes::scan::find(line, 0, line.len(), b' ');
     &line[from..]
@@ -37,7 +37,7 @@ pub fn after_word<'a>(line: &'a [u8]) -> &'a [u8]
 
 // The numbers of s, each with one blank before it.
 pub fn numbers_in(s: &[u8]) -> Numbers
-    ensures { result ≡ numbersOf s.now }
+    ensures { result ≡ numbers_of s.now }
 {
     if s.len() == 0 {
         return Numbers::Nothing;
@@ -109,7 +109,7 @@ pub fn rest_in<'a>(s: &'a [u8]) -> &'a [u8]
 
 // How many words of a list stand before this one: all, where it is not there. Each has one blank before it.
 pub fn place_of(word: &[u8], list: &[u8]) -> usize
-    ensures { result ≡ placeOf word.now list.now }
+    ensures { result ≡ place_of word.now list.now }
 {
     let mut left = list;
     let mut k: usize = 0;

@@ -12,6 +12,6 @@ returns : tie.Need-returns
 returns c =
     sym (same_answer _ _ _ c.same.ensures) ∙ ap (λ (w : List ℕ). w is "years") c.before.before.word_in.ensures
 
-pub asks-years-spec : {M : Type 1} → statement M
-asks-years-spec =
+pub asks_years_spec : {M : Type 1} → statement M
+asks_years_spec =
     tie.close (tie.spec (search rules) (search rules) (search rules) returns)

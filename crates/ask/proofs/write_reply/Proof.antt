@@ -6,39 +6,39 @@ use Prim.Native.Nat.{ℕ, ◌≤◌, ◌<◌}
 use native.Mathlib.Omega.{arith}
 use lib.ListN.{length}
 use Rattle.rows.specs.Reply.{answer}
-use Rattle.questions.specs.DeskReply.{deskSaid}
-use Rattle.replies.specs.ReplyText.{roomOf}
-use Rattle.ask.specs.AnswerText.{replyReply}
-use Rattle.ask.specs.Written.{writtenTold}
-use Rattle.replies.proofs.ReplyLaws.{room-between}
+use Rattle.questions.specs.DeskReply.{desk_said}
+use Rattle.replies.specs.ReplyText.{room_of}
+use Rattle.ask.specs.AnswerText.{reply_reply}
+use Rattle.ask.specs.Written.{written_told}
+use Rattle.replies.proofs.ReplyLaws.{room_between}
 use Rattle.ask.proofs.write_reply.Statement.{statement}
 use Rattle.ask.proofs.write_reply.Tie as tie
 
 returns : tie.Need-returns
-unfolding replyReply
+unfolding reply_reply
 returns c =
     let asked = c.before in
     let a = asked.before.before.before.args in
-    let short : length a.row.now < roomOf (deskSaid a.r a.numbers.now) = omega (arith, asked.room_for.ensures a.numbers.now) in
+    let short : length a.row.now < room_of (desk_said a.r a.numbers.now) = omega (arith, asked.room_for.ensures a.numbers.now) in
     (simp (lt-ltb _ _ short), simp (lt-ltb _ _ short))
 
-put-reply-requires : tie.Need-put-reply-requires
-put-reply-requires c κs =
+put_reply_requires : tie.Need-put-reply-requires
+put_reply_requires c κs =
     let asked = c.before.before in
     let start = asked.before.before.before in
-    let told = deskSaid start.args.r start.args.numbers.now in
+    let told = desk_said start.args.r start.args.numbers.now in
     let room = asked.room_for.ensures start.args.numbers.now in
-    (omega (arith, room, (room-between told).0), start.requires, omega (arith, room))
+    (omega (arith, room, (room_between told).0), start.requires, omega (arith, room))
 
-returns-2 : tie.Need-returns-2
-unfolding replyReply
-returns-2 c =
+returns_2 : tie.Need-returns-2
+unfolding reply_reply
+returns_2 c =
     let put = c.before.before in
     let asked = put.before.before.before in
     let a = asked.before.before.before.args in
-    let room : roomOf (deskSaid a.r a.numbers.now) ≤ length a.row.now = omega (arith, asked.room_for.ensures a.numbers.now) in
-    (simp (le-ltb _ _ room) (ap (λ (n : ℕ). writtenTold (answer n)) put.put-reply.ensures.0), simp (le-ltb _ _ room) put.put-reply.ensures.1)
+    let room : room_of (desk_said a.r a.numbers.now) ≤ length a.row.now = omega (arith, asked.room_for.ensures a.numbers.now) in
+    (simp (le-ltb _ _ room) (ap (λ (n : ℕ). written_told (answer n)) put.put_reply_lem.ensures.0), simp (le-ltb _ _ room) put.put_reply_lem.ensures.1)
 
-pub write-reply-spec : {M : Type 1} → statement M
-write-reply-spec =
-    tie.close (tie.spec (search rules) returns put-reply-requires (search rules) returns-2)
+pub write_reply_spec : {M : Type 1} → statement M
+write_reply_spec =
+    tie.close (tie.spec (search rules) returns put_reply_requires (search rules) returns_2)

@@ -8,29 +8,29 @@ use lib.ListN.{length, take, get_or}
 use lib.Seq.{take_all, length-take-le}
 use native.Mathlib.Omega.{arith}
 use Rattle.rows.proofs.Row.{written}
-use Rattle.desk.specs.Input.{keptAfter}
-use Rattle.desk.proofs.Kept.{ended, goes_on, at-start}
+use Rattle.desk.specs.Input.{kept_after}
+use Rattle.desk.proofs.Kept.{ended, goes_on, at_start}
 use Rattle.desk.proofs.answer_block.Statement.{statement}
 use Rattle.desk.proofs.answer_block.Tie as tie
 
-abbrev invariant-loop : tie.invariant-loop
-invariant-loop block line₀ kept buf₀ n₀ more₀ i₀ line buf n more i =
+abbrev invariant_loop : tie.invariant_loop
+invariant_loop block line₀ kept buf₀ n₀ more₀ i₀ line buf n more i =
     (i ≤ length block)
     × (n ≤ length line)
     × (length line ≡ length line₀)
     × (length buf ≡ length buf₀)
-    × (take n line ≡ keptAfter (length line₀) (take kept line₀) (take i block))
+    × (take n line ≡ kept_after (length line₀) (take kept line₀) (take i block))
 
-abbrev decreases-loop : tie.decreases-loop
-decreases-loop block line₀ kept buf₀ n₀ more₀ i₀ line buf n more i = length block - i
+abbrev decreases_loop : tie.decreases_loop
+decreases_loop block line₀ kept buf₀ n₀ more₀ i₀ line buf n more i = length block - i
 
-loop-holds : tie.Need-loop-init invariant-loop decreases-loop
-loop-holds c =
+loop_holds : tie.Need-loop-init invariant_loop decreases_loop
+loop_holds c =
     let a = c.before.before.before.args in
-    (omega arith, omega arith, omega arith, omega arith, at-start (length a.line.now) (take a.kept a.line.now) a.block.now)
+    (omega arith, omega arith, omega arith, omega arith, at_start (length a.line.now) (take a.kept a.line.now) a.block.now)
 
-loop-again : tie.Need-loop-preserved invariant-loop decreases-loop
-loop-again c =
+loop_again : tie.Need-loop-preserved invariant_loop decreases_loop
+loop_again c =
     let l = c.before.before.before.before in
     let a = l.before.before.before.before.args in
     let room = length a.line.now in
@@ -60,23 +60,23 @@ loop-again c =
     ))
     c.if2.branch
 
-returns : tie.Need-returns invariant-loop decreases-loop
+returns : tie.Need-returns invariant_loop decreases_loop
 returns c =
     let l = c.before.before in
     let a = l.before.before.before.before.args in
     let block = a.block.now in
     let whole : length block ≤ l.loop.i =
     ⊎_elim (λ w. absurd (false≢true (sym w.1.left ∙ c.if3.true))) (λ w. w.left) c.before.loop-test.branch in
-    let kept = l.loop.invariant.4 ∙ ap (keptAfter (length a.line.now) (take a.kept a.line.now)) (take_all l.loop.i block whole) in (
+    let kept = l.loop.invariant.4 ∙ ap (kept_after (length a.line.now) (take a.kept a.line.now)) (take_all l.loop.i block whole) in (
       omega arith,
       omega arith,
       sym (length-take-le l.loop.n l.loop.line l.loop.invariant.1) ∙ ap length kept,
       kept,
     )
 
-pub answer-block-spec : {M : Type 1} → statement M
-answer-block-spec =
+pub answer_block_spec : {M : Type 1} → statement M
+answer_block_spec =
     tie.close
-    (tie.spec invariant-loop decreases-loop loop-holds (λ c. omega arith) (λ c. omega arith) (λ c. omega arith) (λ c. omega arith)
-    (λ c κs. omega arith) (λ c κs. omega arith) (λ c. omega arith) (λ c. omega arith) loop-again (λ c. omega arith)
+    (tie.spec invariant_loop decreases_loop loop_holds (λ c. omega arith) (λ c. omega arith) (λ c. omega arith) (λ c. omega arith)
+    (λ c κs. omega arith) (λ c κs. omega arith) (λ c. omega arith) (λ c. omega arith) loop_again (λ c. omega arith)
     (λ c. omega arith) returns (λ c. omega arith) (λ c. omega arith) (λ c. omega arith))

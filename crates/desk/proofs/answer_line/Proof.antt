@@ -8,13 +8,13 @@ use lib.Seq.{length-take-le}
 use Rattle.desk.proofs.answer_line.Statement.{statement}
 use Rattle.desk.proofs.answer_line.Tie as tie
 
-slice-aggregate-write-out : tie.Need-slice-aggregate-write-out
-slice-aggregate-write-out c =
+slice_aggregate_write_out : tie.Need-slice-aggregate-write-out
+slice_aggregate_write_out c =
     let told = c.before.before.before in
     let fits : told.answered.result ≤ length told.answered.new.1.0 =
     omega (arith, told.answered.auto.1.0, told.answered.ensures.0) in
     sym (length-take-le _ _ fits)
 
-pub answer-line-spec : {M : Type 1} → statement M
-answer-line-spec =
-    tie.close (tie.spec (search rules) (search rules) slice-aggregate-write-out (search rules) (search rules) (search rules))
+pub answer_line_spec : {M : Type 1} → statement M
+answer_line_spec =
+    tie.close (tie.spec (search rules) (search rules) slice_aggregate_write_out (search rules) (search rules) (search rules))

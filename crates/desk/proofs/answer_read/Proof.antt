@@ -8,15 +8,15 @@ use lib.Seq.{length-take-le}
 use Rattle.desk.proofs.answer_read.Statement.{statement}
 use Rattle.desk.proofs.answer_read.Tie as tie
 
-slice-aggregate-write-out : tie.Need-slice-aggregate-write-out
-slice-aggregate-write-out c =
+slice_aggregate_write_out : tie.Need-slice-aggregate-write-out
+slice_aggregate_write_out c =
     let told = c.before.before.before in
-    let fits : told.last-reply.result ≤ length told.last-reply.new.1.0 =
-    omega (arith, told.last-reply.auto.1.0, told.last-reply.ensures.0) in
+    let fits : told.last_reply_lem.result ≤ length told.last_reply_lem.new.1.0 =
+    omega (arith, told.last_reply_lem.auto.1.0, told.last_reply_lem.ensures.0) in
     sym (length-take-le _ _ fits)
 
-pub answer-read-spec : {M : Type 1} → statement M
-answer-read-spec =
+pub answer_read_spec : {M : Type 1} → statement M
+answer_read_spec =
     tie.close
-    (tie.spec (search rules) (search rules) (search rules) (search rules) (search rules) slice-aggregate-write-out
+    (tie.spec (search rules) (search rules) (search rules) (search rules) (search rules) slice_aggregate_write_out
     (search rules) (search rules) (search rules) (search rules) (search rules) (search rules) (search rules) (λ c. search rules))

@@ -22,15 +22,15 @@ returns : tie.Need-returns
 returns c =
     let arg = c.before.before.before.before in
     let blank = arg.before.before.before.before in
-    let from = blank.blank-before.result in
-    let after = blank.blank-before.new.0 in
-    let fits : from ≤ length after = omega (arith, blank.blank-before.auto.0) in
+    let from = blank.blank_before_lem.result in
+    let after = blank.blank_before_lem.new.0 in
+    let fits : from ≤ length after = omega (arith, blank.blank_before_lem.auto.0) in
     let stays = take_put from (length after - from) after arg.arg.new.1.0 fits in
-    let first = written _ _ after from (sym blank.blank-before.ensures.1.0) blank.blank-before.ensures.1.1 in
-    (omega arith, begins _ from _ after _ c.with-argument.ensures.1.0 fits first stays)
+    let first = written _ _ after from (sym blank.blank_before_lem.ensures.1.0) blank.blank_before_lem.ensures.1.1 in
+    (omega arith, begins _ from _ after _ c.with_argument_lem.ensures.1.0 fits first stays)
 
-pub join-spec : {M : Type 1} → statement M
-join-spec =
+pub join_spec : {M : Type 1} → statement M
+join_spec =
     tie.close
     (tie.spec (search rules) (search rules) (search rules) (search rules) (search rules) (search rules) (search rules)
     (search rules) returns)

@@ -6,15 +6,15 @@ use native.Mathlib.Omega.{arith}
 use Rattle.desk.proofs.join_arguments.Statement.{statement}
 use Rattle.desk.proofs.join_arguments.Tie as tie
 
-abbrev invariant-loop : tie.invariant-loop
-invariant-loop line₀ count n₀ i₀ line n i =
+abbrev invariant_loop : tie.invariant_loop
+invariant_loop line₀ count n₀ i₀ line n i =
     (n ≤ length line) × (length line ≡ length line₀) × (1 ≤ i) × (i ≤ 1 + (count - 1))
 
-abbrev decreases-loop : tie.decreases-loop
-decreases-loop line₀ count n₀ i₀ line n i = count - i
+abbrev decreases_loop : tie.decreases_loop
+decreases_loop line₀ count n₀ i₀ line n i = count - i
 
-pub join-arguments-spec : {M : Type 1} → statement M
-join-arguments-spec =
+pub join_arguments_spec : {M : Type 1} → statement M
+join_arguments_spec =
     tie.close
-    (tie.spec invariant-loop decreases-loop (λ c. omega arith) (λ c κs. omega arith) (λ c. omega arith) (λ c. omega arith) (λ c. omega arith)
+    (tie.spec invariant_loop decreases_loop (λ c. omega arith) (λ c κs. omega arith) (λ c. omega arith) (λ c. omega arith) (λ c. omega arith)
     (λ c. omega arith) (λ c. omega arith) (λ c. omega arith) (λ c. omega arith))

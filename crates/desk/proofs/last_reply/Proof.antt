@@ -6,7 +6,7 @@ use native.Mathlib.Omega.{arith}
 use borrow.Author.Rules.{rules}
 use lib.ListN.{length}
 use Rattle.rows.specs.Row.{over}
-use Rattle.desk.proofs.Kept.{no_line, a-line}
+use Rattle.desk.proofs.Kept.{no_line, a_line}
 use Rattle.desk.proofs.last_reply.Statement.{statement}
 use Rattle.desk.proofs.last_reply.Tie as tie
 
@@ -17,11 +17,11 @@ returns c =
     let none = no_line a.line.now c.if1.true in
     (omega arith, (sym (ap length none), sym (ap (λ (l : List ℕ). over l a.buf.now) none)))
 
-returns-2 : tie.Need-returns-2
-returns-2 c =
+returns_2 : tie.Need-returns-2
+returns_2 c =
     let told = c.before.before in
     let a = told.before.before.before.before.before.args in
-    let some = a-line a.line.now told.before.before.if1.false in (
+    let some = a_line a.line.now told.before.before.if1.false in (
       told.answered.ensures.0,
       (
         told.answered.ensures.1.0 ∙ sym (ap length some),
@@ -29,6 +29,6 @@ returns-2 c =
       ),
     )
 
-pub last-reply-spec : {M : Type 1} → statement M
-last-reply-spec =
-    tie.close (tie.spec returns (search rules) (search rules) returns-2)
+pub last_reply_spec : {M : Type 1} → statement M
+last_reply_spec =
+    tie.close (tie.spec returns (search rules) (search rules) returns_2)

@@ -11,6 +11,6 @@ returns c =
     let read = c.before.before.before.before in
     subst (λ (n : ℕ). Within c.given.result n) read.read.auto.1.0 c.given.ensures.1
 
-pub read-block-spec : {M : Type 1} → statement M
-read-block-spec =
+pub read_block_spec : {M : Type 1} → statement M
+read_block_spec =
     tie.close (tie.spec (search rules) (search rules) (search rules) returns)

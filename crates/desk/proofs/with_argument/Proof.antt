@@ -8,17 +8,17 @@ use lib.IntN.{ℤ, pos, negsuc}
 use mir.Syntax.{w32}
 use mir.Val.{SFits, to_z, of_z}
 use mir.Facts.{to_z-of_z}
-use Rattle.desk.specs.Input.{withArgument}
+use Rattle.desk.specs.Input.{with_argument}
 use Rattle.desk.proofs.with_argument.Statement.{statement}
 use Rattle.desk.proofs.with_argument.Tie as tie
 
 module _ (from got room : ℕ) where
-  none : (z : ℤ) → SFits w32 z → of_z w32 z ≡ 0 → from + got ≡ withArgument z from got room
+  none : (z : ℤ) → SFits w32 z → of_z w32 z ≡ 0 → from + got ≡ with_argument z from got room
   none z f e =
       let zero : z ≡ pos 0 = sym (to_z-of_z f) ∙ ap (to_z w32) e in
-      sym (ap (λ (x : ℤ). withArgument x from got room) zero)
+      sym (ap (λ (x : ℤ). with_argument x from got room) zero)
 
-  some : (z : ℤ) → (of_z w32 z ≡ 0 → ⊥) → room ≡ withArgument z from got room
+  some : (z : ℤ) → (of_z w32 z ≡ 0 → ⊥) → room ≡ with_argument z from got room
   some (pos k) h = simp (ne_eqb k 0 (λ e. h (ap (λ (x : ℕ). of_z w32 (pos x)) e)))
   some (negsuc k) h = refl
 
@@ -27,11 +27,11 @@ returns c =
     let a = c.before.args in
     (none a.from a.got a.room a.error c.before.ranges.error c.if1.true, (omega arith, omega arith))
 
-returns-2 : tie.Need-returns-2
-returns-2 c =
+returns_2 : tie.Need-returns-2
+returns_2 c =
     let a = c.before.args in
     (some a.from a.got a.room a.error c.if1.false, (omega arith, omega arith))
 
-pub with-argument-spec : {M : Type 1} → statement M
-with-argument-spec =
-    tie.close (tie.spec (search rules) returns returns-2)
+pub with_argument_spec : {M : Type 1} → statement M
+with_argument_spec =
+    tie.close (tie.spec (search rules) returns returns_2)

@@ -3,12 +3,12 @@
 use mathlib.Core.Path.{◌∙◌, sym}
 use borrow.Author.Rules.{rules}
 use Rattle.measure.specs.Epoch.{shoushi}
-use Rattle.edition.proofs.Edition.{middle-day}
+use Rattle.edition.proofs.Edition.{middle_day_lem}
 use Rattle.edition.proofs.middle_day.Statement.{statement}
 use Rattle.edition.proofs.middle_day.Tie as tie
 
-pub middle-day-spec : {M : Type 1} → statement M
-middle-day-spec =
+pub middle_day_spec : {M : Type 1} → statement M
+middle_day_spec =
     tie.close
     (tie.spec (search rules) (search rules) (search rules)
-    (λ c. c.day-of.ensures ∙ sym (middle-day shoushi c.before.args.j)))
+    (λ c. c.day_of_lem.ensures ∙ sym (middle_day_lem shoushi c.before.args.j)))

@@ -1,26 +1,26 @@
 -- `lists::run_asked` meets its contract. Assumes nothing.
 use borrow.Author.Rules.{rules}
 use borrow.Author.Tests.{eq-eqb, ne_eqb, lt-ltb, le-ltb}
-use Rattle.lists.specs.Lists.{runAsked}
+use Rattle.lists.specs.Lists.{run_asked}
 use Rattle.lists.proofs.run_asked.Statement.{statement}
 use Rattle.lists.proofs.run_asked.Tie as tie
 
 returns : tie.Need-returns
-unfolding runAsked
+unfolding run_asked
 returns c = simp (eq-eqb _ _ c.if1.true)
 
-returns-2 : tie.Need-returns-2
-unfolding runAsked
-returns-2 c = simp (ne_eqb _ _ c.before.if1.false, lt-ltb _ _ c.if2.true)
+returns_2 : tie.Need-returns-2
+unfolding run_asked
+returns_2 c = simp (ne_eqb _ _ c.before.if1.false, lt-ltb _ _ c.if2.true)
 
-returns-3 : tie.Need-returns-3
-unfolding runAsked
-returns-3 c =
+returns_3 : tie.Need-returns-3
+unfolding run_asked
+returns_3 c =
     simp (ne_eqb _ _ c.before.before.if1.false, le-ltb _ _ c.before.if2.false, lt-ltb _ _ c.if3.true)
 
-returns-4 : tie.Need-returns-4
-unfolding runAsked
-returns-4 c =
+returns_4 : tie.Need-returns-4
+unfolding run_asked
+returns_4 c =
     let at = c.before in
     simp (
       ne_eqb _ _ at.before.before.if1.false,
@@ -29,9 +29,9 @@ returns-4 c =
       lt-ltb _ _ c.if4.true,
     )
 
-returns-5 : tie.Need-returns-5
-unfolding runAsked
-returns-5 c =
+returns_5 : tie.Need-returns-5
+unfolding run_asked
+returns_5 c =
     let at = c.before in
     simp (
       ne_eqb _ _ at.before.before.if1.false,
@@ -40,6 +40,6 @@ returns-5 c =
       le-ltb _ _ c.if4.false,
     )
 
-pub run-asked-spec : {M : Type 1} → statement M
-run-asked-spec =
-    tie.close (tie.spec returns returns-2 (search rules) (search rules) returns-3 (search rules) returns-4 returns-5)
+pub run_asked_spec : {M : Type 1} → statement M
+run_asked_spec =
+    tie.close (tie.spec returns returns_2 (search rules) (search rules) returns_3 (search rules) returns_4 returns_5)

@@ -16,6 +16,6 @@ returns c =
     let fits : a.kept ≤ length a.buf.now = omega arith in
     (subst (λ (n : ℕ). Within c.before.before.given.result n) (omega arith) c.before.before.given.ensures.1, take_put a.kept (length a.buf.now - a.kept) a.buf.now read.read.new.1.0 fits)
 
-pub read-more-spec : {M : Type 1} → statement M
-read-more-spec =
+pub read_more_spec : {M : Type 1} → statement M
+read_more_spec =
     tie.close (tie.spec (search rules) (search rules) (search rules) (search rules) (search rules) (search rules) returns)

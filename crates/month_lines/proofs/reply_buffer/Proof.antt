@@ -8,5 +8,5 @@ use Rattle.month_lines.proofs.reply_buffer.Tie as tie
 returns : tie.Need-returns
 returns c = sym (length-replicate {A = ℕ} 196_608 0)
 
-pub reply-buffer-spec : {M : Type 1} → statement M
-reply-buffer-spec = tie.close (tie.spec returns)
+pub reply_buffer_spec : {M : Type 1} → statement M
+reply_buffer_spec = tie.close (tie.spec returns)

@@ -1,12 +1,12 @@
 -- `months::head` meets its contract. Assumes nothing.
 use borrow.Author.Rules.{rules}
 use borrow.Author.Tests.{lt-ltb, le-ltb}
-use Rattle.months.specs.Head.{headReply}
+use Rattle.months.specs.Head.{head_reply}
 use Rattle.months.proofs.head.Statement.{statement}
 use Rattle.months.proofs.head.Tie as tie
 
 pub head_spec : {M : Type 1} → statement M
-unfolding headReply
+unfolding head_reply
 head_spec =
     tie.close
     (tie.spec

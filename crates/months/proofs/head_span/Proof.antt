@@ -4,18 +4,18 @@ use Prim.Native.Nat.{◌*◌}
 use native.Mathlib.Omega.{arith}
 use borrow.Author.Rules.{rules}
 use Rattle.measure.specs.Epoch.{shoushi}
-use Rattle.month_law.proofs.Months.{head-is}
+use Rattle.month_law.proofs.Months.{head_is}
 use Rattle.edition.specs.Edition.{calendar}
-use Rattle.months.proofs.Reach.{solstice-least, solstice-most}
+use Rattle.months.proofs.Reach.{solstice_least, solstice_most}
 use Rattle.months.proofs.head_span.Statement.{statement}
 use Rattle.months.proofs.head_span.Tie as tie
 
-span-of-requires : tie.Need-span-of-requires
-span-of-requires c κs =
-    let n = c.before.args.n in omega (arith, c.middle-day.ensures, solstice-least (12 * n), solstice-most n c.before.requires)
+span_of_requires : tie.Need-span-of-requires
+span_of_requires c κs =
+    let n = c.before.args.n in omega (arith, c.middle_day_lem.ensures, solstice_least (12 * n), solstice_most n c.before.requires)
 
-pub head-span-spec : {M : Type 1} → statement M
-head-span-spec =
+pub head_span_spec : {M : Type 1} → statement M
+head_span_spec =
     tie.close
-    (tie.spec (search rules) (search rules) span-of-requires
-    (λ c. c.Span-of.ensures ∙ rw (c.before.middle-day.ensures, ← head-is (calendar shoushi) c.before.before.args.n)))
+    (tie.spec (search rules) (search rules) span_of_requires
+    (λ c. c.Span-of.ensures ∙ rw (c.before.middle_day_lem.ensures, ← head_is (calendar shoushi) c.before.before.args.n)))

@@ -5,7 +5,7 @@ use Rattle.moons.specs.Lunation.{anomaly}
 use Rattle.moons.proofs.anomaly.Statement.{statement}
 use Rattle.moons.proofs.anomaly.Tie as tie
 
-pub anomaly-spec : {M : Type 1} → statement M
+pub anomaly_spec : {M : Type 1} → statement M
 unfolding anomaly
-anomaly-spec =
+anomaly_spec =
     tie.close (tie.spec (search rules) (search rules) (search rules) (search rules) (λ c. refl))

@@ -5,22 +5,22 @@ use borrow.Author.Rules.{rules}
 use Rattle.rows.specs.Reply.{answer}
 use Rattle.measure.specs.Epoch.{shoushi}
 use Rattle.signed.specs.Signed.{integer}
-use Rattle.signed.proofs.Integers.{held-as}
+use Rattle.signed.proofs.Integers.{held_as}
 use Rattle.inequalities.specs.Lunar.{lunar}
-use Rattle.moons.specs.TrueMoon.{lunarReply}
-use Rattle.moons.proofs.Admitted.{one-refusal, counted}
-use Rattle.moons.proofs.Times.{anomaly-lt}
+use Rattle.moons.specs.TrueMoon.{lunar_reply}
+use Rattle.moons.proofs.Admitted.{one_refusal, counted}
+use Rattle.moons.proofs.Times.{anomaly_lt}
 use Rattle.moons.proofs.lunar.Statement.{statement}
 use Rattle.moons.proofs.lunar.Tie as tie
 
-pub lunar-spec : {M : Type 1} → statement M
-unfolding lunarReply
-lunar-spec =
+pub lunar_spec : {M : Type 1} → statement M
+unfolding lunar_reply
+lunar_spec =
     tie.close
     (tie.spec (search rules)
-    (λ c. rw (one-refusal, sym c.before.outside.ensures ∙ c.if1.true))
+    (λ c. rw (one_refusal, sym c.before.outside.ensures ∙ c.if1.true))
     (λ c κs. counted _ _ c.before.outside.ensures c.if1.false)
-    (λ c κs. rw c.anomaly.ensures (anomaly-lt shoushi _ _))
+    (λ c κs. rw c.anomaly.ensures (anomaly_lt shoushi _ _))
     (λ c.
-    rw (one-refusal, sym c.before.before.before.outside.ensures ∙ c.before.before.if1.false)
-    (ap answer (held-as c.lunar.type-inv (c.lunar.ensures ∙ ap (λ (n : ℕ). integer (lunar n)) c.before.anomaly.ensures)))))
+    rw (one_refusal, sym c.before.before.before.outside.ensures ∙ c.before.before.if1.false)
+    (ap answer (held_as c.lunar.type-inv (c.lunar.ensures ∙ ap (λ (n : ℕ). integer (lunar n)) c.before.anomaly.ensures)))))

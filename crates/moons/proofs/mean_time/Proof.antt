@@ -5,7 +5,7 @@ use Rattle.moons.specs.Lunation.{mean}
 use Rattle.moons.proofs.mean_time.Statement.{statement}
 use Rattle.moons.proofs.mean_time.Tie as tie
 
-pub mean-time-spec : {M : Type 1} → statement M
+pub mean_time_spec : {M : Type 1} → statement M
 unfolding mean
-mean-time-spec =
+mean_time_spec =
     tie.close (tie.spec (search rules) (search rules) (search rules) (search rules) (λ c. refl))

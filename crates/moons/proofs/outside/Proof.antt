@@ -3,8 +3,8 @@ use borrow.Author.Tests.{lt-ltb, le-ltb}
 use Rattle.moons.proofs.outside.Statement.{statement}
 use Rattle.moons.proofs.outside.Tie as tie
 
-pub outside-spec : {M : Type 1} → statement M
-outside-spec =
+pub outside_spec : {M : Type 1} → statement M
+outside_spec =
     tie.close
     (tie.spec
     (λ c. simp (lt-ltb _ _ c.if1.true))

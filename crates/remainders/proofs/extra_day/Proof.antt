@@ -1,13 +1,13 @@
 -- `remainders::extra_day` meets its contract. Assumes nothing.
 use borrow.Author.Rules.{rules}
 use borrow.Author.Tests.{le-leb, lt-leb}
-use Rattle.remainders.specs.ExtraDays.{extraDay, extraReply}
+use Rattle.remainders.specs.ExtraDays.{extra_day, extra_reply}
 use Rattle.remainders.proofs.extra_day.Statement.{statement}
 use Rattle.remainders.proofs.extra_day.Tie as tie
 
-pub extra-day-spec : {M : Type 1} → statement M
-unfolding extraReply extraDay
-extra-day-spec =
+pub extra_day_spec : {M : Type 1} → statement M
+unfolding extra_reply extra_day
+extra_day_spec =
     tie.close
     (tie.spec
     (λ c. simp (le-leb _ _ c.if1.true))

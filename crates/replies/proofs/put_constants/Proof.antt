@@ -1,13 +1,13 @@
 -- `replies::put_constants` meets its contract. Assumes nothing.
 use borrow.Author.Rules.{rules}
-use Rattle.replies.specs.ReplyText.{constantsText}
+use Rattle.replies.specs.ReplyText.{constants_text}
 use Rattle.replies.proofs.put_constants.Statement.{statement}
 use Rattle.replies.proofs.put_constants.Tie as tie
 
 returns : tie.Need-returns
-unfolding constantsText
+unfolding constants_text
 returns c = c.before.before.fill.ensures
 
-pub put-constants-spec : {M : Type 1} → statement M
-put-constants-spec =
+pub put_constants_spec : {M : Type 1} → statement M
+put_constants_spec =
     tie.close (tie.spec (search rules) (search rules) (search rules) (search rules) returns)

@@ -1,13 +1,13 @@
 -- `seasons::term` meets its contract. Assumes nothing.
 use borrow.Author.Rules.{rules}
 use borrow.Author.Tests.{lt-ltb, le-ltb, le-leb, lt-leb}
-use Rattle.seasons.specs.Terms.{termReply}
+use Rattle.seasons.specs.Terms.{term_reply}
 use Rattle.seasons.proofs.term.Statement.{statement}
 use Rattle.seasons.proofs.term.Tie as tie
 
-pub term-spec : {M : Type 1} → statement M
-unfolding termReply
-term-spec =
+pub term_spec : {M : Type 1} → statement M
+unfolding term_reply
+term_spec =
     tie.close
     (tie.spec
     (λ c. simp (lt-ltb _ _ c.if1.true))

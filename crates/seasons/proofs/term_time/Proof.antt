@@ -6,7 +6,7 @@ use Rattle.seasons.specs.Terms.{term}
 use Rattle.seasons.proofs.term_time.Statement.{statement}
 use Rattle.seasons.proofs.term_time.Tie as tie
 
-pub term-time-spec : {M : Type 1} → statement M
+pub term_time_spec : {M : Type 1} → statement M
 unfolding term solstice
-term-time-spec =
+term_time_spec =
     tie.close (tie.spec (search rules) (search rules) (search rules) (search rules) (λ c. refl))

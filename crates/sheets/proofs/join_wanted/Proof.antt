@@ -5,9 +5,9 @@ use Rattle.sheets.specs.Sheet.{joined}
 use Rattle.sheets.proofs.join_wanted.Statement.{statement}
 use Rattle.sheets.proofs.join_wanted.Tie as tie
 
-pub join-wanted-spec : {M : Type 1} → statement M
+pub join_wanted_spec : {M : Type 1} → statement M
 unfolding joined
-join-wanted-spec =
+join_wanted_spec =
     tie.close
     (tie.spec (search rules)
     (λ c. simp (eq-eqb _ _ c.if1.true))

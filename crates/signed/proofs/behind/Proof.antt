@@ -5,14 +5,14 @@ use lib.IntN.{pos, neg_ℤ}
 use mir.Syntax.{w64}
 use mir.Facts.{to_z_pos}
 use borrow.Author.Rules.{rules}
-use Rattle.signed.proofs.Integers.{integer-behind, held, opposite, opposite-mag}
+use Rattle.signed.proofs.Integers.{integer_behind, held, opposite, opposite_mag}
 use Rattle.signed.proofs.behind.Statement.{statement}
 use Rattle.signed.proofs.behind.Tie as tie
 
-sub-result : tie.Need-overflow-sub-result
-sub-result c =
+sub_result : tie.Need-overflow-sub-result
+sub_result c =
     let m = c.args.magnitude in
-    simp (to_z_pos w64 {n = m} (omega arith), opposite) (record { sfits = omega (arith, opposite-mag m) })
+    simp (to_z_pos w64 {n = m} (omega arith), opposite) (record { sfits = omega (arith, opposite_mag m) })
 
 returns : tie.Need-returns
 returns c =
@@ -20,10 +20,10 @@ returns c =
     simp (
       to_z_pos w64 {n = m} (omega arith),
       opposite,
-      held (neg_ℤ (pos m)) (omega (arith, opposite-mag m)),
+      held (neg_ℤ (pos m)) (omega (arith, opposite_mag m)),
     )
-    (sym (integer-behind m))
+    (sym (integer_behind m))
 
-pub behind-spec : {M : Type 1} → statement M
-behind-spec =
-    tie.close (tie.spec (search rules) sub-result returns)
+pub behind_spec : {M : Type 1} → statement M
+behind_spec =
+    tie.close (tie.spec (search rules) sub_result returns)

@@ -12,8 +12,8 @@ use mir.Val.{SFits, of_z, to_z}
 use mir.Facts.{to_z-of_z, to_z_pos, Fits-nat_abs}
 use borrow.Author.Rules.{rules}
 use borrow.Author.Tests.{lt-ltb}
-use Rattle.signed.proofs.Integers.{opposite-mag}
-use Rattle.signed.proofs.Signs.{below-zero, from_zero}
+use Rattle.signed.proofs.Integers.{opposite_mag}
+use Rattle.signed.proofs.Signs.{below_zero, from_zero}
 use Rattle.signed.proofs.magnitude_of.Statement.{statement}
 use Rattle.signed.proofs.magnitude_of.Tie as tie
 
@@ -34,7 +34,7 @@ record Negative (z : ℤ) : Type 0 where
 negative : (n : ℕ) → SFits w64 (negsuc n) → Negative (negsuc n)
 negative n f =
     record {
-      up_fits = rw (one_up n) (record { sfits = omega (arith, opposite-mag n, f.sfits) });
+      up_fits = rw (one_up n) (record { sfits = omega (arith, opposite_mag n, f.sfits) });
       opposite = ap (λ (z : ℤ). pos 0 -ℤ z) (one_up n) ∙ back n;
       size = omega arith;
     }
@@ -43,7 +43,7 @@ negative n f =
 module _ (z : ℤ) (f : SFits w64 z) where
   below : lt_z (to_z w64 (of_z w64 z)) (to_z w64 (of_z w64 (pos 0))) ≡ true → Negative z
   below e =
-      let b = below-zero z f e in
+      let b = below_zero z f e in
       subst (λ (x : ℤ). SFits w64 x → Negative x) (sym b.is) (negative b.past) f
 
   above : lt_z (to_z w64 (of_z w64 z)) (to_z w64 (of_z w64 (pos 0))) ≡ false → T (non_neg z)
@@ -53,8 +53,8 @@ module _ (z : ℤ) (f : SFits w64 z) where
 arm : (c : tie.Then1) → Negative c.before.args.number
 arm c = below c.before.args.number c.before.ranges.number c.if1.true
 
-pub magnitude-of-spec : {M : Type 1} → statement M
-magnitude-of-spec =
+pub magnitude_of_spec : {M : Type 1} → statement M
+magnitude_of_spec =
     tie.close
     (tie.spec
     (λ c. simp (to_z-of_z c.before.ranges.number) (arm c).up_fits)

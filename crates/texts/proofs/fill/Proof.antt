@@ -8,23 +8,23 @@ use borrow.Rule.Slice.PartMut.{same_len_mid}
 use lib.ListN.{length, get_or, take, drop, length-take, length-drop}
 use lib.Seq.{drop-length, length-take-le}
 use Rattle.rows.specs.Row.{over}
-use Rattle.rows.proofs.Row.{over-is, more-written}
-use Rattle.texts.specs.Text.{piece, filled, mostDigits}
-use Rattle.texts.proofs.TextLaws.{filled-step}
+use Rattle.rows.proofs.Row.{over_is, more_written}
+use Rattle.texts.specs.Text.{piece, filled, most_digits}
+use Rattle.texts.proofs.TextLaws.{filled_step}
 use Rattle.texts.proofs.fill.Statement.{statement}
 use Rattle.texts.proofs.fill.Tie as tie
 
-abbrev invariant-loop : tie.invariant-loop
-invariant-loop template numbers row₀ used₀ next₀ i₀ row used next i =
-    (i ≤ length template) × (next ≤ i) × (used + mostDigits * (length template - i) ≤ length row₀) × (length row ≡ length row₀)
+abbrev invariant_loop : tie.invariant_loop
+invariant_loop template numbers row₀ used₀ next₀ i₀ row used next i =
+    (i ≤ length template) × (next ≤ i) × (used + most_digits * (length template - i) ≤ length row₀) × (length row ≡ length row₀)
     × (filled template numbers ≡ take used row ++ filled (drop i template) (drop next numbers))
     × (row ≡ over (take used row) row₀)
 
-abbrev decreases-loop : tie.decreases-loop
-decreases-loop template numbers row₀ used₀ next₀ i₀ row used next i = length template - i
+abbrev decreases_loop : tie.decreases_loop
+decreases_loop template numbers row₀ used₀ next₀ i₀ row used next i = length template - i
 
-loop-again : tie.Need-loop-preserved invariant-loop decreases-loop
-loop-again c =
+loop_again : tie.Need-loop-preserved invariant_loop decreases_loop
+loop_again c =
     let put = c.before.before.before.put-piece in
     let got = c.before.before.before.before.before.number_at in
     let at = c.before.before.before.before.before.before.before.before in
@@ -36,9 +36,9 @@ loop-again c =
     let i : ℕ = at.loop.i in
     let j : ℕ = at.loop.next in
     let e =
-    more-written (filled t ns) (piece (get_or t i 0) got.result) (filled (drop (i + 1) t) (drop (j + c.numbers-taken.result) ns)) a.row.now row
+    more_written (filled t ns) (piece (get_or t i 0) got.result) (filled (drop (i + 1) t) (drop (j + c.numbers-taken.result) ns)) a.row.now row
     put.new.1.1.0 used put.result (omega arith)
-    (at.loop.invariant.4 ∙ ap (λ (l : List ℕ). take used row ++ l) (rw (got.ensures, c.numbers-taken.ensures.0) (filled-step t ns i j (omega arith))))
+    (at.loop.invariant.4 ∙ ap (λ (l : List ℕ). take used row ++ l) (rw (got.ensures, c.numbers-taken.ensures.0) (filled_step t ns i j (omega arith))))
     at.loop.invariant.5 put.ensures.1.0 put.ensures.1.1 in (
       omega arith,
       omega (arith, c.numbers-taken.ensures.1),
@@ -48,7 +48,7 @@ loop-again c =
       e.1,
     )
 
-returns : tie.Need-returns invariant-loop decreases-loop
+returns : tie.Need-returns invariant_loop decreases_loop
 unfolding filled
 returns c =
     let at = c.before in
@@ -65,10 +65,10 @@ returns c =
 pub fill_spec : {M : Type 1} → statement M
 fill_spec =
     tie.close
-    (tie.spec invariant-loop decreases-loop
-    (λ c. (omega arith, omega arith, omega arith, refl, refl, sym (over-is [] _)))
+    (tie.spec invariant_loop decreases_loop
+    (λ c. (omega arith, omega arith, omega arith, refl, refl, sym (over_is [] _)))
     (λ c. omega arith) (λ c κs. tt) (λ c. omega arith) (λ c. omega arith) (λ c. omega arith)
     (λ c κs. simp (length-take, length-drop) (omega arith))
-    (λ c. omega arith) (λ c κs. tt) (λ c. omega arith) (λ c. omega arith) (λ c. omega arith) loop-again
+    (λ c. omega arith) (λ c κs. tt) (λ c. omega arith) (λ c. omega arith) (λ c. omega arith) loop_again
     (λ c. c.before.loop.invariant.3)
     returns)

@@ -5,8 +5,8 @@ use lib.ListN.{get_or-eq_default}
 use Rattle.texts.proofs.number_at.Statement.{statement}
 use Rattle.texts.proofs.number_at.Tie as tie
 
-pub number-at-spec : {M : Type 1} → statement M
-number-at-spec =
+pub number_at_spec : {M : Type 1} → statement M
+number_at_spec =
     tie.close
     (tie.spec (search rules) (search rules) (search rules)
     (λ c. sym (get_or-eq_default c.before.args.numbers.now 0 c.if1.false)))

@@ -4,10 +4,10 @@ use Rattle.viewer.proofs.month_told.Statement.{statement}
 use Rattle.viewer.proofs.month_told.Tie as tie
 
 returns : tie.Need-returns
-returns c = rw (c.before.month-number.ensures, c.leap-mark.ensures)
+returns c = rw (c.before.month-number.ensures, c.leap_mark_lem.ensures)
 
-pub month-told-spec : {M : Type 1} → statement M
-month-told-spec =
+pub month_told_spec : {M : Type 1} → statement M
+month_told_spec =
     tie.close
     (tie.spec (search rules) (search rules) (search rules) (search rules) (search rules) (search rules) (search rules)
     (search rules) (search rules) returns)

@@ -5,16 +5,16 @@ use borrow.Author.Tests.{eq-eqb, ne_eqb}
 use Rattle.words.proofs.after_one.Statement.{statement}
 use Rattle.words.proofs.after_one.Tie as tie
 
-returns-3 : tie.Need-returns-3
-returns-3 c =
+returns_3 : tie.Need-returns-3
+returns_3 c =
     let known = c.before.before.before in
     let n = known.before.before in
     let p = n.before in
     c.after_two.ensures
     ∙ sym (simp (ne_eqb _ _ p.before.if1.false, ← p.part_in.ensures, ← n.number_in.ensures, known.b.given.1, ← c.before.rest_in.ensures))
 
-pub after-one-spec : {M : Type 1} → statement M
-after-one-spec =
+pub after_one_spec : {M : Type 1} → statement M
+after_one_spec =
     tie.close
     (tie.spec
     (λ c. simp (eq-eqb _ _ c.if1.true))
@@ -23,4 +23,4 @@ after-one-spec =
     let n = c.before.before in
     let p = n.before in
     simp (ne_eqb _ _ p.before.if1.false, ← p.part_in.ensures, ← n.number_in.ensures, c.enum_told.given.1))
-    (search rules) (search rules) returns-3)
+    (search rules) (search rules) returns_3)

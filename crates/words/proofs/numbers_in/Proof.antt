@@ -1,23 +1,23 @@
--- `words::numbers_in` meets its contract: it goes on as `numbersOf` does. Assumes nothing.
+-- `words::numbers_in` meets its contract: it goes on as `numbers_of` does. Assumes nothing.
 use mathlib.Core.Path.{◌∙◌, sym}
 use borrow.Author.Rules.{rules}
 use borrow.Author.Tests.{eq-eqb, ne_eqb}
-use Rattle.words.specs.Numbers.{numbersOf}
+use Rattle.words.specs.Numbers.{numbers_of}
 use Rattle.words.proofs.numbers_in.Statement.{statement}
 use Rattle.words.proofs.numbers_in.Tie as tie
 
-returns-3 : tie.Need-returns-3
-unfolding numbersOf
-returns-3 c =
+returns_3 : tie.Need-returns-3
+unfolding numbers_of
+returns_3 c =
     let known = c.before.before.before in
     let n = known.before.before in
     let p = n.before in
     c.after_one.ensures
     ∙ sym (simp (ne_eqb _ _ p.before.if1.false, ← p.part_in.ensures, ← n.number_in.ensures, known.a.given.1, ← c.before.rest_in.ensures))
 
-pub numbers-in-spec : {M : Type 1} → statement M
-unfolding numbersOf
-numbers-in-spec =
+pub numbers_in_spec : {M : Type 1} → statement M
+unfolding numbers_of
+numbers_in_spec =
     tie.close
     (tie.spec
     (λ c. simp (eq-eqb _ _ c.if1.true))
@@ -26,4 +26,4 @@ numbers-in-spec =
     let n = c.before.before in
     let p = n.before in
     simp (ne_eqb _ _ p.before.if1.false, ← p.part_in.ensures, ← n.number_in.ensures, c.enum_told.given.1))
-    (search rules) (search rules) returns-3)
+    (search rules) (search rules) returns_3)

@@ -2,13 +2,13 @@
 use native.Mathlib.Omega.{arith}
 use borrow.Author.Rules.{rules}
 use borrow.Author.Tests.{le-leb, lt-leb}
-use Rattle.inequalities.specs.Limits.{fromNearerEnd}
+use Rattle.inequalities.specs.Limits.{from_nearer_end}
 use Rattle.inequalities.proofs.limits.from_nearer_end.Statement.{statement}
 use Rattle.inequalities.proofs.limits.from_nearer_end.Tie as tie
 
-pub from-nearer-end-spec : {M : Type 1} → statement M
-unfolding fromNearerEnd
-from-nearer-end-spec =
+pub from_nearer_end_spec : {M : Type 1} → statement M
+unfolding from_nearer_end
+from_nearer_end_spec =
     tie.close
     (tie.spec (search rules) (search rules) (λ c. omega arith)
     (λ c. simp (le-leb _ _ c.if1.true))

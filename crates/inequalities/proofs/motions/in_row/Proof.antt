@@ -3,14 +3,14 @@
 use borrow.Author.Rules.{rules}
 use Rattle.rows.specs.Row.{listed}
 use Rattle.inequalities.specs.Law.{exact}
-use Rattle.inequalities.specs.Motion.{wholeLaw, motionAt, rows, motionInRow}
+use Rattle.inequalities.specs.Motion.{whole_law, motion_at, rows, motion_in_row}
 use Rattle.rows.proofs.Row.{listed_at}
 use Rattle.inequalities.proofs.motions.in_row.Statement.{statement}
 use Rattle.inequalities.proofs.motions.in_row.Tie as tie
 
-pub in-row-spec : {M : Type 1} → statement M
-unfolding listed motionInRow motionAt wholeLaw exact
-in-row-spec =
+pub in_row_spec : {M : Type 1} → statement M
+unfolding listed motion_in_row motion_at whole_law exact
+in_row_spec =
     tie.close
     (tie.spec (search rules) (search rules)
-    (λ c. listed_at motionInRow rows c.args.row (search rules)))
+    (λ c. listed_at motion_in_row rows c.args.row (search rules)))

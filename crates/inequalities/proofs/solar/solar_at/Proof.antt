@@ -4,27 +4,27 @@ use native.Mathlib.Omega.{arith}
 use borrow.Author.Rules.{rules}
 use borrow.Author.Tests.{le-leb, lt-leb}
 use Rattle.rows.specs.Reply.{answer}
-use Rattle.signed.proofs.Integers.{held-as}
-use Rattle.inequalities.specs.Solar.{solarAtReply}
-use Rattle.inequalities.proofs.Sizes.{fast-le, slow-le}
+use Rattle.signed.proofs.Integers.{held_as}
+use Rattle.inequalities.specs.Solar.{solar_at_reply}
+use Rattle.inequalities.proofs.Sizes.{fast_le, slow_le}
 use Rattle.inequalities.proofs.solar.solar_at.Statement.{statement}
 use Rattle.inequalities.proofs.solar.solar_at.Tie as tie
 
-pub solar-at-spec : {M : Type 1} → statement M
-unfolding solarAtReply
-solar-at-spec =
+pub solar_at_spec : {M : Type 1} → statement M
+unfolding solar_at_reply
+solar_at_spec =
     tie.close
     (tie.spec
     (λ c. simp (le-leb _ _ c.if1.true))
     (search rules) (search rules)
-    (λ c κs. omega (arith, fast-le c.before.before.before.before.args.time, c.fast.ensures))
+    (λ c κs. omega (arith, fast_le c.before.before.before.before.args.time, c.fast.ensures))
     (search rules) (search rules)
-    (λ c κs. omega (arith, slow-le c.before.before.before.before.args.time, c.slow.ensures))
+    (λ c κs. omega (arith, slow_le c.before.before.before.before.args.time, c.slow.ensures))
     (λ c.
     let b = c.before.before in
-    ap answer (held-as c.ahead.type-inv c.ahead.ensures)
+    ap answer (held_as c.ahead.type-inv c.ahead.ensures)
     ∙ simp (lt-leb _ _ b.before.before.if1.false, b.enum_told.given.1, c.before.fast.ensures))
     (λ c.
     let b = c.before.before in
-    ap answer (held-as c.behind.type-inv c.behind.ensures)
+    ap answer (held_as c.behind.type-inv c.behind.ensures)
     ∙ simp (lt-leb _ _ b.before.before.if1.false, b.enum-told2.given.1, c.before.slow.ensures)))

@@ -10,17 +10,17 @@ use Rattle.rows.specs.Row.{over}
 use Rattle.lines.proofs.blocks.shift.Statement.{statement}
 use Rattle.lines.proofs.blocks.shift.Tie as tie
 
-abbrev invariant-loop : tie.invariant-loop
-invariant-loop buf₀ at k i₀ buf i = (i ≤ k) × (length buf ≡ length buf₀) × (take i buf ≡ take i (drop at buf₀)) × (drop i buf ≡ drop i buf₀)
+abbrev invariant_loop : tie.invariant_loop
+invariant_loop buf₀ at k i₀ buf i = (i ≤ k) × (length buf ≡ length buf₀) × (take i buf ≡ take i (drop at buf₀)) × (drop i buf ≡ drop i buf₀)
 
-abbrev decreases-loop : tie.decreases-loop
-decreases-loop buf₀ at k i₀ buf i = k - i
+abbrev decreases_loop : tie.decreases_loop
+decreases_loop buf₀ at k i₀ buf i = k - i
 
-loop-holds : tie.Need-loop-init invariant-loop decreases-loop
-loop-holds c = (omega arith, refl, refl, refl)
+loop_holds : tie.Need-loop-init invariant_loop decreases_loop
+loop_holds c = (omega arith, refl, refl, refl)
 
-loop-again : tie.Need-loop-preserved invariant-loop decreases-loop
-loop-again c =
+loop_again : tie.Need-loop-preserved invariant_loop decreases_loop
+loop_again c =
     let at = c.before.before in
     let a = at.before.args in
     let old = a.buf.now in
@@ -50,7 +50,7 @@ loop-again c =
           ∙ drop-drop 1 i old,
     )
 
-returns : tie.Need-returns invariant-loop decreases-loop
+returns : tie.Need-returns invariant_loop decreases_loop
 unfolding over
 returns c =
     let at = c.before in
@@ -66,8 +66,8 @@ returns c =
     ∙ ap (λ (j : ℕ). take j (drop a.at a.buf.now) ++ drop j a.buf.now) all
     ∙ ap (λ (j : ℕ). moved ++ drop j a.buf.now) long
 
-pub shift-spec : {M : Type 1} → statement M
-shift-spec =
+pub shift_spec : {M : Type 1} → statement M
+shift_spec =
     tie.close
-    (tie.spec invariant-loop decreases-loop loop-holds (λ c. omega arith) (λ c. omega arith) (λ c. omega arith) (λ c. omega arith)
-    (λ c. omega arith) loop-again (λ c. omega arith) returns)
+    (tie.spec invariant_loop decreases_loop loop_holds (λ c. omega arith) (λ c. omega arith) (λ c. omega arith) (λ c. omega arith)
+    (λ c. omega arith) loop_again (λ c. omega arith) returns)

@@ -5,47 +5,47 @@ use native.Mathlib.Omega.{arith}
 use borrow.Author.Tests.{ne_eqb}
 use lib.ListN.{length, drop, length-drop}
 use lib.Seq.{drop-length}
-use Rattle.frames.specs.LineEnds.{lineLength}
-use Rattle.frames.proofs.LineEndLaws.{length-step}
+use Rattle.frames.specs.LineEnds.{line_length}
+use Rattle.frames.proofs.LineEndLaws.{length_step}
 use Rattle.lines.proofs.Kept.{whole_is}
 use Rattle.lines.proofs.blocks.whole_lines.Statement.{statement}
 use Rattle.lines.proofs.blocks.whole_lines.Tie as tie
 
-abbrev invariant-loop : tie.invariant-loop
-invariant-loop block n₀ n = (n ≤ length block) × (lineLength (drop n block) ≡ length (drop n block))
+abbrev invariant_loop : tie.invariant_loop
+invariant_loop block n₀ n = (n ≤ length block) × (line_length (drop n block) ≡ length (drop n block))
 
-abbrev decreases-loop : tie.decreases-loop
-decreases-loop block n₀ n = n
+abbrev decreases_loop : tie.decreases_loop
+decreases_loop block n₀ n = n
 
-loop-holds : tie.Need-loop-init invariant-loop decreases-loop
-unfolding lineLength
-loop-holds c =
+loop_holds : tie.Need-loop-init invariant_loop decreases_loop
+unfolding line_length
+loop_holds c =
     let block = c.args.block.now in
-    (omega arith, ap lineLength (drop-length block) ∙ sym (ap length (drop-length block)))
+    (omega arith, ap line_length (drop-length block) ∙ sym (ap length (drop-length block)))
 
-returns : tie.Need-returns invariant-loop decreases-loop
+returns : tie.Need-returns invariant_loop decreases_loop
 returns c =
     let at = c.before.before.before in
     whole_is _ _ (record { within = at.loop.invariant.0; ended = λ _. c.if1.true; unfinished = at.loop.invariant.1 })
 
-loop-again : tie.Need-loop-preserved invariant-loop decreases-loop
-loop-again c =
+loop_again : tie.Need-loop-preserved invariant_loop decreases_loop
+loop_again c =
     let at = c.before.before.before in
     let block = at.before.args.block.now in
     let n = at.loop.n in
     let same : n - 1 + 1 ≡ n = omega arith in
-    let e : lineLength (drop (n - 1) block) ≡ suc (lineLength (drop n block)) =
-    length-step block (n - 1) (omega arith) ∙ simp (ne_eqb _ _ c.if1.false) (ap (λ (k : ℕ). suc (lineLength (drop k block))) same) in
+    let e : line_length (drop (n - 1) block) ≡ suc (line_length (drop n block)) =
+    length_step block (n - 1) (omega arith) ∙ simp (ne_eqb _ _ c.if1.false) (ap (λ (k : ℕ). suc (line_length (drop k block))) same) in
     (omega arith, omega (arith, length-drop n block, length-drop (n - 1) block))
 
-returns-2 : tie.Need-returns-2 invariant-loop decreases-loop
-returns-2 c =
+returns_2 : tie.Need-returns-2 invariant_loop decreases_loop
+returns_2 c =
     let at = c.before in
     let none : at.loop.n ≡ 0 = omega arith in
     sym none ∙ whole_is _ _ (record { within = at.loop.invariant.0; ended = λ h. absurd (omega arith); unfinished = at.loop.invariant.1 })
 
-pub whole-lines-spec : {M : Type 1} → statement M
-whole-lines-spec =
+pub whole_lines_spec : {M : Type 1} → statement M
+whole_lines_spec =
     tie.close
-    (tie.spec invariant-loop decreases-loop loop-holds (λ c. omega arith) (λ c. omega arith) returns (λ c. omega arith) (λ c. omega arith)
-    loop-again returns-2)
+    (tie.spec invariant_loop decreases_loop loop_holds (λ c. omega arith) (λ c. omega arith) returns (λ c. omega arith) (λ c. omega arith)
+    loop_again returns_2)

@@ -9,11 +9,11 @@ use Rattle.rows.proofs.Row.{put}
 use Rattle.lists.proofs.year_rows.put_four.Statement.{statement}
 use Rattle.lists.proofs.year_rows.put_four.Tie as tie
 
-slice-write-row-2 : tie.Need-slice-write-row-2
-slice-write-row-2 c = simp length-set (omega arith)
+slice_write_row_2 : tie.Need-slice-write-row-2
+slice_write_row_2 c = simp length-set (omega arith)
 
-slice-write-row-3 : tie.Need-slice-write-row-3
-slice-write-row-3 c = simp length-set (omega arith)
+slice_write_row_3 : tie.Need-slice-write-row-3
+slice_write_row_3 c = simp length-set (omega arith)
 
 returns : tie.Need-returns
 unfolding over
@@ -25,6 +25,6 @@ returns c =
     (put (a.first ∷ []) row _ a.days 1 (put [] row _ a.first 0 refl refl (omega arith)) refl (omega arith)) refl (omega arith))
     refl (omega arith)
 
-pub put-four-spec : {M : Type 1} → statement M
-put-four-spec =
-    tie.close (tie.spec (search rules) slice-write-row-2 slice-write-row-3 (λ c. search rules) (search rules) returns)
+pub put_four_spec : {M : Type 1} → statement M
+put_four_spec =
+    tie.close (tie.spec (search rules) slice_write_row_2 slice_write_row_3 (λ c. search rules) (search rules) returns)

@@ -2,21 +2,21 @@
 use borrow.Author.Rules.{rules}
 use Rattle.bytes.specs.Bytes.{index_of, index_after}
 use Rattle.words.specs.Numbers.{end_of, part_of, rest_of}
-use Rattle.words.specs.Place.{placeWithin, placeOf}
+use Rattle.words.specs.Place.{place_within, place_of}
 use Rattle.words.proofs.Chosen.{placed}
 use Rattle.questions.specs.DeskReply.{malformed}
 use Rattle.questions.specs.Question.{alone}
-use Rattle.questions.proofs.Answered.{answers-as}
+use Rattle.questions.proofs.Answered.{answers_as}
 use Rattle.questions.proofs.counted.alone.Statement.{statement}
 use Rattle.questions.proofs.counted.alone.Tie as tie
 
 returns : tie.Need-returns
-unfolding index_of index_after end_of part_of rest_of placeWithin placeOf alone
+unfolding index_of index_after end_of part_of rest_of place_within place_of alone
 returns c =
     let place = c.before in
     let a = place.before.before.before.args in
-    λ row. answers-as (placed malformed a.word.now (alone) place.place_of.result place.place_of.ensures) (c.alone_at.ensures row)
+    λ row. answers_as (placed malformed a.word.now (alone) place.place_of.result place.place_of.ensures) (c.alone_at.ensures row)
 
-pub alone-spec : {M : Type 1} → statement M
-alone-spec =
+pub alone_spec : {M : Type 1} → statement M
+alone_spec =
     tie.close (tie.spec (search rules) (search rules) (search rules) returns)

@@ -1,25 +1,25 @@
--- `questions::counted::with_one` meets its contract: the list in the code has the words of `withOne`, in their order. Assumes nothing.
+-- `questions::counted::with_one` meets its contract: the list in the code has the words of `with_one`, in their order. Assumes nothing.
 use borrow.Author.Rules.{rules}
 use lib.ListN.{length}
 use Rattle.bytes.specs.Bytes.{index_of, index_after}
 use Rattle.words.specs.Numbers.{end_of, part_of, rest_of}
 use Rattle.measure.specs.Epoch.{shoushi}
-use Rattle.words.specs.Place.{placeWithin, placeOf}
+use Rattle.words.specs.Place.{place_within, place_of}
 use Rattle.words.proofs.Chosen.{placed}
 use Rattle.questions.specs.DeskReply.{malformed}
-use Rattle.questions.specs.Question.{withOne}
-use Rattle.questions.proofs.Answered.{answers-as}
+use Rattle.questions.specs.Question.{with_one}
+use Rattle.questions.proofs.Answered.{answers_as}
 use Rattle.questions.proofs.counted.with_one.Statement.{statement}
 use Rattle.questions.proofs.counted.with_one.Tie as tie
 
 returns : tie.Need-returns
-unfolding index_of index_after end_of part_of rest_of placeWithin placeOf withOne
+unfolding index_of index_after end_of part_of rest_of place_within place_of with_one
 returns c =
     let asked = c.before.before in
     let place = asked.before.before in
     let a = place.before.before.before.before.args in
-    answers-as (placed malformed a.word.now (withOne shoushi (length a.row.now) a.n) place.place_of.result place.place_of.ensures) asked.one_at.ensures
+    answers_as (placed malformed a.word.now (with_one shoushi (length a.row.now) a.n) place.place_of.result place.place_of.ensures) asked.one_at.ensures
 
-pub with-one-spec : {M : Type 1} → statement M
-with-one-spec =
+pub with_one_spec : {M : Type 1} → statement M
+with_one_spec =
     tie.close (tie.spec (search rules) (search rules) (search rules) (search rules) returns)

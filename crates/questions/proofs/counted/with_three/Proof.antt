@@ -1,23 +1,23 @@
--- `questions::counted::with_three` meets its contract: the list in the code has the words of `withThree`, in their order. Assumes nothing.
+-- `questions::counted::with_three` meets its contract: the list in the code has the words of `with_three`, in their order. Assumes nothing.
 use borrow.Author.Rules.{rules}
 use Rattle.bytes.specs.Bytes.{index_of, index_after}
 use Rattle.words.specs.Numbers.{end_of, part_of, rest_of}
 use Rattle.measure.specs.Epoch.{shoushi}
-use Rattle.words.specs.Place.{placeWithin, placeOf}
+use Rattle.words.specs.Place.{place_within, place_of}
 use Rattle.words.proofs.Chosen.{placed}
 use Rattle.questions.specs.DeskReply.{malformed}
-use Rattle.questions.specs.Question.{withThree}
-use Rattle.questions.proofs.Answered.{answers-as}
+use Rattle.questions.specs.Question.{with_three}
+use Rattle.questions.proofs.Answered.{answers_as}
 use Rattle.questions.proofs.counted.with_three.Statement.{statement}
 use Rattle.questions.proofs.counted.with_three.Tie as tie
 
 returns : tie.Need-returns
-unfolding index_of index_after end_of part_of rest_of placeWithin placeOf withThree
+unfolding index_of index_after end_of part_of rest_of place_within place_of with_three
 returns c =
     let place = c.before in
     let a = place.before.before.before.args in
-    λ row. answers-as (placed malformed a.word.now (withThree shoushi a.n a.i a.p) place.place_of.result place.place_of.ensures) (c.three-at.ensures row)
+    λ row. answers_as (placed malformed a.word.now (with_three shoushi a.n a.i a.p) place.place_of.result place.place_of.ensures) (c.three-at.ensures row)
 
-pub with-three-spec : {M : Type 1} → statement M
-with-three-spec =
+pub with_three_spec : {M : Type 1} → statement M
+with_three_spec =
     tie.close (tie.spec (search rules) (search rules) (search rules) returns)

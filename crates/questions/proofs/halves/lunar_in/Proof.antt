@@ -1,22 +1,22 @@
--- `questions::halves::lunar_in` meets its contract: the list in the code has the words of `lunarIn`, in their order. Assumes nothing.
+-- `questions::halves::lunar_in` meets its contract: the list in the code has the words of `lunar_in`, in their order. Assumes nothing.
 use borrow.Author.Rules.{rules}
 use Rattle.bytes.specs.Bytes.{index_of, index_after}
 use Rattle.words.specs.Numbers.{end_of, part_of, rest_of}
-use Rattle.words.specs.Place.{placeWithin, placeOf}
+use Rattle.words.specs.Place.{place_within, place_of}
 use Rattle.words.proofs.Chosen.{placed}
 use Rattle.questions.specs.DeskReply.{malformed}
-use Rattle.questions.specs.Question.{lunarIn}
-use Rattle.questions.proofs.Answered.{answers-as}
+use Rattle.questions.specs.Question.{lunar_in}
+use Rattle.questions.proofs.Answered.{answers_as}
 use Rattle.questions.proofs.halves.lunar_in.Statement.{statement}
 use Rattle.questions.proofs.halves.lunar_in.Tie as tie
 
 returns : tie.Need-returns
-unfolding index_of index_after end_of part_of rest_of placeWithin placeOf lunarIn
+unfolding index_of index_after end_of part_of rest_of place_within place_of lunar_in
 returns c =
     let place = c.before in
     let a = place.before.before.before.args in
-    λ row. answers-as (placed malformed a.half.now (lunarIn a.t) place.place_of.result place.place_of.ensures) (c.lunar-by.ensures row)
+    λ row. answers_as (placed malformed a.half.now (lunar_in a.t) place.place_of.result place.place_of.ensures) (c.lunar-by.ensures row)
 
-pub lunar-in-spec : {M : Type 1} → statement M
-lunar-in-spec =
+pub lunar_in_spec : {M : Type 1} → statement M
+lunar_in_spec =
     tie.close (tie.spec (search rules) (search rules) (search rules) returns)

@@ -1,22 +1,22 @@
--- `questions::halves::with_half` meets its contract: the list in the code has the words of `withHalf`, in their order. Assumes nothing.
+-- `questions::halves::with_half` meets its contract: the list in the code has the words of `with_half`, in their order. Assumes nothing.
 use borrow.Author.Rules.{rules}
 use Rattle.bytes.specs.Bytes.{index_of, index_after}
 use Rattle.words.specs.Numbers.{end_of, part_of, rest_of}
-use Rattle.words.specs.Place.{placeWithin, placeOf}
+use Rattle.words.specs.Place.{place_within, place_of}
 use Rattle.words.proofs.Chosen.{placed}
 use Rattle.questions.specs.DeskReply.{malformed}
-use Rattle.questions.specs.Question.{withHalf}
-use Rattle.questions.proofs.Answered.{answers-as}
+use Rattle.questions.specs.Question.{with_half}
+use Rattle.questions.proofs.Answered.{answers_as}
 use Rattle.questions.proofs.halves.with_half.Statement.{statement}
 use Rattle.questions.proofs.halves.with_half.Tie as tie
 
 returns : tie.Need-returns
-unfolding index_of index_after end_of part_of rest_of placeWithin placeOf withHalf
+unfolding index_of index_after end_of part_of rest_of place_within place_of with_half
 returns c =
     let place = c.before in
     let a = place.before.before.before.before.args in
-    λ row. answers-as (placed malformed a.word.now (withHalf a.half.now a.t) place.place_of.result place.place_of.ensures) (c.half_at.ensures row)
+    λ row. answers_as (placed malformed a.word.now (with_half a.half.now a.t) place.place_of.result place.place_of.ensures) (c.half_at.ensures row)
 
-pub with-half-spec : {M : Type 1} → statement M
-with-half-spec =
+pub with_half_spec : {M : Type 1} → statement M
+with_half_spec =
     tie.close (tie.spec (search rules) (search rules) (search rules) returns)

@@ -8,6 +8,6 @@ use Rattle.questions.proofs.marks.is_leap.Tie as tie
 returns : tie.Need-returns
 returns c = sym (same_answer _ _ _ c.same.ensures)
 
-pub is-leap-spec : {M : Type 1} → statement M
-is-leap-spec =
+pub is_leap_spec : {M : Type 1} → statement M
+is_leap_spec =
     tie.close (tie.spec (search rules) (search rules) returns)

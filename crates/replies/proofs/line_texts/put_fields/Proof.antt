@@ -1,6 +1,6 @@
 -- `replies::line_texts::put_fields` meets its contract. Assumes nothing.
 use borrow.Author.Rules.{rules}
-use Rattle.replies.proofs.LineTextLaws.{told-so, month-text}
+use Rattle.replies.proofs.LineTextLaws.{told_so, month_text_lem}
 use Rattle.replies.proofs.line_texts.put_fields.Statement.{statement}
 use Rattle.replies.proofs.line_texts.put_fields.Tie as tie
 
@@ -10,8 +10,8 @@ returns c =
     let mark = put.before.before.before.before in
     let number = mark.before in
     let a = number.before.before.args in
-    told-so a.row.now (month-text a.m _ _ number.month-number.ensures mark.leap-mark.ensures) put.fill.ensures
+    told_so a.row.now (month_text_lem a.m _ _ number.month-number.ensures mark.leap_mark_lem.ensures) put.fill.ensures
 
-pub put-fields-spec : {M : Type 1} → statement M
-put-fields-spec =
+pub put_fields_spec : {M : Type 1} → statement M
+put_fields_spec =
     tie.close (tie.spec (search rules) (search rules) (search rules) (search rules) (search rules) (search rules) returns)

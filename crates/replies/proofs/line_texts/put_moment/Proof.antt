@@ -1,8 +1,8 @@
 -- `replies::line_texts::put_moment` meets its contract. Assumes nothing.
 use borrow.Author.Rules.{rules}
-use Rattle.rows.specs.Reply.{answerSaid}
-use Rattle.replies.specs.LineText.{momentText}
-use Rattle.replies.proofs.LineTextLaws.{told-so, case-text}
+use Rattle.rows.specs.Reply.{answer_said}
+use Rattle.replies.specs.LineText.{moment_text}
+use Rattle.replies.proofs.LineTextLaws.{told_so, case_text}
 use Rattle.replies.proofs.line_texts.put_moment.Statement.{statement}
 use Rattle.replies.proofs.line_texts.put_moment.Tie as tie
 
@@ -10,14 +10,14 @@ returns : tie.Need-returns
 returns c =
     let put = c.before.before in
     let at = put.before.before.before in
-    told-so at.before.before.before.args.row.now (case-text answerSaid momentText at.a.given.1) put.put-refusal.ensures
+    told_so at.before.before.before.args.row.now (case_text answer_said moment_text at.a.given.1) put.put-refusal.ensures
 
-returns-2 : tie.Need-returns-2
-returns-2 c =
+returns_2 : tie.Need-returns-2
+returns_2 c =
     let put = c.before.before in
     let at = put.before.before.before in
-    told-so at.before.before.before.args.row.now (case-text answerSaid momentText at.a2.given.1) put.put-time.ensures
+    told_so at.before.before.before.args.row.now (case_text answer_said moment_text at.a2.given.1) put.put-time.ensures
 
-pub put-moment-spec : {M : Type 1} → statement M
-put-moment-spec =
-    tie.close (tie.spec (search rules) (search rules) (search rules) (search rules) (search rules) returns (search rules) returns-2)
+pub put_moment_spec : {M : Type 1} → statement M
+put_moment_spec =
+    tie.close (tie.spec (search rules) (search rules) (search rules) (search rules) (search rules) returns (search rules) returns_2)

@@ -1,38 +1,38 @@
 -- `replies::list_texts::put_months` meets its contract. Assumes nothing.
 use borrow.Author.Rules.{rules}
 use native.Mathlib.Omega.{arith}
-use Rattle.rows.specs.Reply.{answerSaid}
+use Rattle.rows.specs.Reply.{answer_said}
 use Rattle.rows.specs.declared.Answer.{Answer}
-use Rattle.lists.specs.Records.{recordWidth}
-use Rattle.questions.specs.DeskReply.{listIn}
-use Rattle.replies.specs.ListText.{recordsText, recordRoom}
-use Rattle.replies.proofs.LineTextLaws.{told-so, case-text}
-use Rattle.replies.proofs.ListTextLaws.{case-fits, record-takes}
+use Rattle.lists.specs.Records.{record_width}
+use Rattle.questions.specs.DeskReply.{list_in}
+use Rattle.replies.specs.ListText.{records_text, record_room}
+use Rattle.replies.proofs.LineTextLaws.{told_so, case_text}
+use Rattle.replies.proofs.ListTextLaws.{case_fits, record_takes}
 use Rattle.replies.proofs.list_texts.put_months.Statement.{statement}
 use Rattle.replies.proofs.list_texts.put_months.Tie as tie
 
-put-items-requires : tie.Need-put-items-requires
-put-items-requires c κs =
+put_items_requires : tie.Need-put-items-requires
+put_items_requires c κs =
     let at = c.before.before.before in
-    let fits = case-fits recordWidth recordRoom _ _ at.a2.given.1 at.before.before.before.before.requires.1 in
-    (omega arith, omega arith, record-takes, omega (arith, fits.0), omega (arith, fits.1))
+    let fits = case_fits record_width record_room _ _ at.a2.given.1 at.before.before.before.before.requires.1 in
+    (omega arith, omega arith, record_takes, omega (arith, fits.0), omega (arith, fits.1))
 
 returns : tie.Need-returns
 returns c =
     let put = c.before.before in
     let at = put.before.before.before in
     let a = at.before.before.before.before.args in
-    told-so a.row.now (case-text (λ (x : Answer). listIn recordWidth (answerSaid x) a.numbers.now) recordsText at.a.given.1) put.put-refusal.ensures
+    told_so a.row.now (case_text (λ (x : Answer). list_in record_width (answer_said x) a.numbers.now) records_text at.a.given.1) put.put-refusal.ensures
 
-returns-2 : tie.Need-returns-2
-returns-2 c =
+returns_2 : tie.Need-returns-2
+returns_2 c =
     let put = c.before.before in
     let at = put.before.before.before.before in
     let a = at.before.before.before.before.args in
-    told-so a.row.now
-    (case-text (λ (x : Answer). listIn recordWidth (answerSaid x) a.numbers.now) recordsText at.a2.given.1)
+    told_so a.row.now
+    (case_text (λ (x : Answer). list_in record_width (answer_said x) a.numbers.now) records_text at.a2.given.1)
     put.put-items.ensures
 
-pub put-months-spec : {M : Type 1} → statement M
-put-months-spec =
-    tie.close (tie.spec (search rules) (search rules) (search rules) (search rules) put-items-requires (search rules) returns (search rules) returns-2)
+pub put_months_spec : {M : Type 1} → statement M
+put_months_spec =
+    tie.close (tie.spec (search rules) (search rules) (search rules) (search rules) put_items_requires (search rules) returns (search rules) returns_2)

@@ -11,11 +11,11 @@ use Rattle.viewer.specs.Bytes.{low_first}
 use Rattle.viewer.proofs.record_bytes.put_low_first.Statement.{statement}
 use Rattle.viewer.proofs.record_bytes.put_low_first.Tie as tie
 
-slice-write-row-2 : tie.Need-slice-write-row-2
-slice-write-row-2 c = simp length-set (omega arith)
+slice_write_row_2 : tie.Need-slice-write-row-2
+slice_write_row_2 c = simp length-set (omega arith)
 
-slice-write-row-3 : tie.Need-slice-write-row-3
-slice-write-row-3 c = simp length-set (omega arith)
+slice_write_row_3 : tie.Need-slice-write-row-3
+slice_write_row_3 c = simp length-set (omega arith)
 
 returns : tie.Need-returns
 unfolding low_first over
@@ -28,8 +28,8 @@ returns c =
     (omega arith))
     refl (omega arith)
 
-pub put-low-first-spec : {M : Type 1} → statement M
-put-low-first-spec =
+pub put_low_first_spec : {M : Type 1} → statement M
+put_low_first_spec =
     tie.close
-    (tie.spec (search rules) (search rules) (search rules) slice-write-row-2 (search rules) slice-write-row-3 (search rules)
+    (tie.spec (search rules) (search rules) (search rules) slice_write_row_2 (search rules) slice_write_row_3 (search rules)
     (λ c. search rules) (search rules) returns)
