@@ -1,5 +1,7 @@
 // A line in, the text of its reply out: what the desk asks, and a viewer or a page. The question is answered by `questions`, and its line
 // written by `replies`.
+#![tactic(auto)]
+
 ghost use Rattle.std.specs.Prelude.{List, ◌≡◌, ℕ, suc, length};
 ghost use Rattle.rows.specs.Row.{row_after};
 ghost use Rattle.measure.specs.Units.{last_year};

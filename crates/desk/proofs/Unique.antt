@@ -17,34 +17,34 @@ use Rattle.desk.specs.declared.Asked.{Asked}
 use Rattle.desk.specs.declared.Asked.TheVariants.{Line, Nothing}
 use Rattle.desk.proofs.answered.Kinds as answered
 use Rattle.desk.proofs.answered.Reads as answered_reads
-use Rattle.desk.proofs.last_reply.Kinds as last_reply_lem
+use Rattle.desk.proofs.last_reply.Kinds as last_reply_kinds
 use Rattle.desk.proofs.last_reply.Reads as last_reply_reads
 use Rattle.desk.proofs.keep.Kinds as keep
 use Rattle.desk.proofs.keep.Reads as keep_reads
-use Rattle.desk.proofs.blank_before.Kinds as blank_before_lem
+use Rattle.desk.proofs.blank_before.Kinds as blank_before_kinds
 use Rattle.desk.proofs.blank_before.Reads as blank_before_reads
-use Rattle.desk.proofs.with_argument.Kinds as with_argument_lem
+use Rattle.desk.proofs.with_argument.Kinds as with_argument_kinds
 use Rattle.desk.proofs.with_argument.Reads as with_argument_reads
-use Rattle.desk.proofs.answer_block.Kinds as answer_block_lem
+use Rattle.desk.proofs.answer_block.Kinds as answer_block_kinds
 use Rattle.desk.proofs.answer_block.Reads as answer_block_reads
-use Rattle.desk.proofs.answer_read.Kinds as answer_read_lem
+use Rattle.desk.proofs.answer_read.Kinds as answer_read_kinds
 use Rattle.desk.proofs.answer_read.Reads as answer_read_reads
-use Rattle.desk.proofs.join_arguments.Kinds as join_arguments_lem
+use Rattle.desk.proofs.join_arguments.Kinds as join_arguments_kinds
 use Rattle.desk.proofs.join_arguments.Reads as join_arguments_reads
 
 pub answered_unique : OneOutcome answered.ps answered.r answered_reads.Post (λ κs s. s.1.0.now)
 answered_unique κs a x y s t p q = (p.1.0 ∙ sym q.1.0, p.1.1 ∙ sym q.1.1)
 
-pub last_reply_unique : OneOutcome last_reply_lem.ps last_reply_lem.r last_reply_reads.Post (λ κs s. s.1.0.now)
+pub last_reply_unique : OneOutcome last_reply_kinds.ps last_reply_kinds.r last_reply_reads.Post (λ κs s. s.1.0.now)
 last_reply_unique κs a x y s t p q = (p.1.0 ∙ sym q.1.0, p.1.1 ∙ sym q.1.1)
 
 pub keep_unique : OneOutcome keep.ps keep.r keep_reads.Post (λ κs s. s.0.now)
 keep_unique κs a x y s t p q = (p.1.0 ∙ sym q.1.0, p.1.1 ∙ sym q.1.1)
 
-pub blank_before_unique : OneOutcome blank_before_lem.ps blank_before_lem.r blank_before_reads.Post (λ κs s. s.0.now)
+pub blank_before_unique : OneOutcome blank_before_kinds.ps blank_before_kinds.r blank_before_reads.Post (λ κs s. s.0.now)
 blank_before_unique κs a x y s t p q = (p.1.0 ∙ sym q.1.0, p.1.1 ∙ sym q.1.1)
 
-pub with_argument_unique : OneReply with_argument_lem.ps with_argument_lem.r with_argument_reads.Post
+pub with_argument_unique : OneReply with_argument_kinds.ps with_argument_kinds.r with_argument_reads.Post
 with_argument_unique κs a x y s t p q = p.0 ∙ sym q.0
 
 -- two ends of a turn: the same bytes kept, or both times the input's end; and where a write failed, no input's end
@@ -70,15 +70,15 @@ one_turn_lem CutShort (Begun n) s t room line block p q = tt
 one_turn_lem CutShort Ended s t room line block p q = omega arith
 one_turn_lem CutShort CutShort s t room line block p q = tt
 
-pub answer_block_unique : (κs : Lfts 3) (a : Dens κs answer_block_lem.ps) (x y : (res_t answer_block_lem.r κs).Denot)
-    (s t : AtExit (ended_of 3 answer_block_lem.ps answer_block_lem.r) κs)
+pub answer_block_unique : (κs : Lfts 3) (a : Dens κs answer_block_kinds.ps) (x y : (res_t answer_block_kinds.r κs).Denot)
+    (s t : AtExit (ended_of 3 answer_block_kinds.ps answer_block_kinds.r) κs)
     → answer_block_reads.Post κs a x s
     → answer_block_reads.Post κs a y t
     → OneTurn x y s.1.0.now t.1.0.now
 answer_block_unique κs a x y s t p q = one_turn_lem x y _ _ _ _ _ p q
 
-pub answer_read_unique : (κs : Lfts 3) (a : Dens κs answer_read_lem.ps) (x y : (res_t answer_read_lem.r κs).Denot)
-    (s t : AtExit (ended_of 3 answer_read_lem.ps answer_read_lem.r) κs)
+pub answer_read_unique : (κs : Lfts 3) (a : Dens κs answer_read_kinds.ps) (x y : (res_t answer_read_kinds.r κs).Denot)
+    (s t : AtExit (ended_of 3 answer_read_kinds.ps answer_read_kinds.r) κs)
     → answer_read_reads.Post κs a x s
     → answer_read_reads.Post κs a y t
     → OneTurn x y s.1.0.now t.1.0.now
@@ -97,8 +97,8 @@ one_asked (Line m) Nothing count room p q = omega arith
 one_asked Nothing (Line n) count room p q = omega arith
 one_asked Nothing Nothing count room p q = tt
 
-pub join_arguments_unique : (κs : Lfts 1) (a : Dens κs join_arguments_lem.ps) (x y : (res_t join_arguments_lem.r κs).Denot)
-    (s t : AtExit (ended_of 1 join_arguments_lem.ps join_arguments_lem.r) κs)
+pub join_arguments_unique : (κs : Lfts 1) (a : Dens κs join_arguments_kinds.ps) (x y : (res_t join_arguments_kinds.r κs).Denot)
+    (s t : AtExit (ended_of 1 join_arguments_kinds.ps join_arguments_kinds.r) κs)
     → join_arguments_reads.Post κs a x s
     → join_arguments_reads.Post κs a y t
     → OneAsked x y

@@ -1,5 +1,7 @@
 // The desk: answers the calendar's questions, from its arguments as one line when it has any, else one a line from standard input.
 // The input comes by blocks, and each line is answered as it ends.
+#![tactic(auto)]
+
 ghost use Rattle.std.specs.Prelude.{◌≡◌, ◌+◌, ◌≤◌, ◌<◌, length, take};
 ghost use Rattle.rows.specs.Row.{over};
 ghost use Rattle.measure.specs.Epoch.{shoushi};

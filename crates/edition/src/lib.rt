@@ -1,4 +1,6 @@
 // The calendar of an epoch: the first days of its months and the days of its middle terms. That it is lawful is proved in proofs/.
+#![tactic(auto)]
+
 ghost use Rattle.std.specs.Prelude.{◌≡◌, ◌+◌, ◌*◌, ◌≤◌};
 ghost use Rattle.measure.specs.Units.{last_year};
 ghost use Rattle.measure.specs.Epoch.{shoushi};

@@ -1,5 +1,7 @@
 // Hexadecimal frames, one a line: where a line ends, digits both ways by their number, the line that asks for a day, and the line of a
 // reply.
+#![tactic(auto)]
+
 ghost use Rattle.std.specs.Prelude.{◌≡◌, [], ◌∷◌, ◌++◌, ◌+◌, ◌^◌, ◌≤◌, ◌<◌, length};
 ghost use Rattle.rows.specs.Reply.{answer_said};
 ghost use Rattle.rows.specs.Row.{over};

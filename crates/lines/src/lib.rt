@@ -1,4 +1,6 @@
 // The replies to hexadecimal lines: a day in and a month out.
+#![tactic(auto)]
+
 pub mod blocks;
 
 ghost use Rattle.std.specs.Prelude.{◌≡◌, ◌*◌, ◌≤◌, length};

@@ -1,4 +1,6 @@
 // A year's list and a run of years, as month records in a lent row of numbers.
+#![tactic(auto)]
+
 pub mod year_rows;
 
 ghost use Rattle.std.specs.Prelude.{◌≡◌, suc, ◌+◌, ◌*◌, ◌/◌, ◌≤◌, length};

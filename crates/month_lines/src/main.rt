@@ -1,4 +1,6 @@
 // Reads days from standard input, a line each, and writes the month of each to standard output.
+#![tactic(auto)]
+
 ghost use Rattle.std.specs.Prelude.{◌≡◌, ◌*◌, ◌-◌, ◌≤◌, length, take};
 ghost use Rattle.rows.specs.Row.{over};
 ghost use Rattle.reads.specs.Given.{Within};

@@ -1,4 +1,6 @@
 // The head of a year and a day's month.
+#![tactic(auto)]
+
 pub mod dates;
 pub mod kinds;
 

@@ -1,4 +1,6 @@
 // Mean and true moons: a lunation and its quarter, with both inequalities and the correction.
+#![tactic(auto)]
+
 ghost use Rattle.std.specs.Prelude.{◌||◌, ◌≡◌, ◌<◌};
 ghost use Rattle.rows.specs.Choice.{◌<?◌};
 ghost use Rattle.rows.specs.Reply.{answer_said};

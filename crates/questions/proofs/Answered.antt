@@ -18,7 +18,7 @@ use Rattle.remainders.specs.Hours.{hour_said}
 use Rattle.remainders.specs.ExtraDays.{Found, days_said}
 use Rattle.remainders.specs.declared.HourAnswer.{HourAnswer}
 use Rattle.remainders.specs.declared.DaysAnswer.{DaysAnswer}
-use Rattle.seasons.specs.Terms.{terms as termsInYear}
+use Rattle.seasons.specs.Terms.{terms as terms_in_year}
 use Rattle.months.specs.Month.{MonthOfDay, month_answer_said}
 use Rattle.months.specs.declared.MonthAnswer.{MonthAnswer}
 use Rattle.lists.specs.Records.{record_width, year_room}
@@ -90,9 +90,9 @@ module _ (list before after : List ℕ) where
     lies_as : (w most : ℕ) → Long w most reply list → Few w most (answer_said a) (length after)
     lies_as w most long = rw e (lies_in w most reply long row)
 
-    pub terms_answers : Long 1 termsInYear reply list → Answers (terms (as_list reply list)) (Terms a) before after
+    pub terms_answers : Long 1 terms_in_year reply list → Answers (terms (as_list reply list)) (Terms a) before after
     terms_answers long =
-        record { said = ap terms (held_as 1 termsInYear long); written = over_row reply row; lies = lies_as 1 termsInYear long }
+        record { said = ap terms (held_as 1 terms_in_year long); written = over_row reply row; lies = lies_as 1 terms_in_year long }
 
     pub year_answers : Long record_width year_room reply list → Answers (year (as_list reply list)) (Year a) before after
     year_answers long =

@@ -9,7 +9,7 @@ use Rattle.measure.specs.declared.Name.{Name}
 use Rattle.signed.specs.Signed.{signed_said}
 use Rattle.remainders.specs.Hours.{hour_said}
 use Rattle.remainders.specs.ExtraDays.{Found, days_said}
-use Rattle.seasons.specs.Terms.{terms as termsInYear}
+use Rattle.seasons.specs.Terms.{terms as terms_in_year}
 use Rattle.months.specs.Month.{MonthOfDay, month_answer_said}
 use Rattle.lists.specs.Records.{record_width, year_room}
 use Rattle.questions.specs.declared.DeskAnswer.{DeskAnswer}
@@ -106,7 +106,7 @@ Lies (Month a) room = Unit {0}
 Lies (NameOf n) room = Unit {0}
 Lies (Hour h) room = Unit {0}
 Lies (Days d) room = Unit {0}
-Lies (Terms a) room = Few 1 termsInYear (answer_said a) room
+Lies (Terms a) room = Few 1 terms_in_year (answer_said a) room
 Lies (Year a) room = Few record_width year_room (answer_said a) room
 Lies (Years a) room = Few record_width most_records (answer_said a) room
 Lies (Sheet a) room = Few 1 (suc last_year) (answer_said a) room

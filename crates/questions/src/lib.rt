@@ -1,4 +1,6 @@
 // From a line of text to the answer that it gets. Where a list is asked for, its numbers go into a lent row.
+#![tactic(auto)]
+
 mod counted;
 mod halves;
 mod marks;

@@ -15,9 +15,9 @@ given (pos n) room = bytes (min n room)
 given (negsuc n) room = failed
 
 -- what each case stands for
-abbrev pub gotSaid : Got → Given
-gotSaid (Bytes n) = bytes n
-gotSaid Failed = failed
+abbrev pub got_said : Got → Given
+got_said (Bytes n) = bytes n
+got_said Failed = failed
 
 -- the bytes lie in a row of so many
 abbrev pub Within : Got → ℕ → Type 0

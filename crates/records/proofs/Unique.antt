@@ -24,16 +24,16 @@ use Rattle.lists.specs.Records.{records_of}
 use Rattle.lists.specs.Lists.{run_of, list_reply, run_reply}
 use Rattle.records.specs.declared.MonthRecord.{MonthRecord}
 use Rattle.records.proofs.Runs.{Says, YearSays, RunSays}
-use Rattle.records.specs.contracts.run_records as run_records_lem
-use Rattle.records.specs.contracts.year_records as year_records_lem
+use Rattle.records.specs.contracts.run_records as run_records_fn
+use Rattle.records.specs.contracts.year_records as year_records_fn
 
 module _ {M : Type 1} {𝓤 : Ura M} (𝓛 : Logic 𝓤) (mem : Memory → SProp 𝓤) (run : Routine → Fun 𝓤) (κs : Lfts 1) where
-  year_says : (a : Args year_records_lem.signature κs) (r : Answer) (end : AtExit year_records_lem.ended κs)
-      → (year_records_lem.clauses 𝓛 mem run κs a).ensures tt r end ≡ fact 𝓤 (YearSays a.0 a.1.0.now r end.1.0.now)
+  year_says : (a : Args year_records_fn.signature κs) (r : Answer) (end : AtExit year_records_fn.ended κs)
+      → (year_records_fn.clauses 𝓛 mem run κs a).ensures tt r end ≡ fact 𝓤 (YearSays a.0 a.1.0.now r end.1.0.now)
   year_says a r end = refl
 
-  run_says : (a : Args run_records_lem.signature κs) (r : Answer) (end : AtExit run_records_lem.ended κs)
-      → (run_records_lem.clauses 𝓛 mem run κs a).ensures tt r end ≡ fact 𝓤 (RunSays a.0 a.1.0 a.1.1.0.now r end.1.1.0.now)
+  run_says : (a : Args run_records_fn.signature κs) (r : Answer) (end : AtExit run_records_fn.ended κs)
+      → (run_records_fn.clauses 𝓛 mem run κs a).ensures tt r end ≡ fact 𝓤 (RunSays a.0 a.1.0 a.1.1.0.now r end.1.1.0.now)
   run_says a r end = refl
 
 one_outcome : (reply : Reply ℕ) (numbers : List ℕ) (row : List MonthRecord) (x y : Answer) (s t : List MonthRecord)

@@ -1,4 +1,6 @@
 // What a remainder tells: the double-hour and the ke, and extra and vanishing days.
+#![tactic(auto)]
+
 ghost use Rattle.std.specs.Prelude.{◌≡◌};
 ghost use Rattle.remainders.specs.Hours.{hour_reply, hour_said};
 ghost use Rattle.remainders.specs.ExtraDays.{extra_reply, vanishing_reply, days_said};

@@ -2,7 +2,7 @@
 -- Assumes nothing.
 use Rattle.std.specs.Prelude.{List, [], ◌∷◌, ℕ}
 use Rattle.rows.specs.Reply.{bad_line}
-use Rattle.measure.specs.Units.{day as oneDay, fen, miao, year as solarYear, half_year, month as lunarMonth, quarter_step, term_step, pentad_step, earth_step, anomalistic_month, anomalistic_half}
+use Rattle.measure.specs.Units.{day as one_day, fen, miao, year as solar_year, half_year, month as lunar_month, quarter_step, term_step, pentad_step, earth_step, anomalistic_month, anomalistic_half}
 use Rattle.measure.specs.Epoch.{shoushi}
 use Rattle.words.specs.Ascii.{bytes_of}
 use Rattle.texts.specs.Text.{filled}
@@ -14,7 +14,7 @@ unfoldable pub constants_text : List ℕ
 constants_text =
     filled
     (bytes_of "day=% fen=% miao=% year=% half-year=% month=% quarter=% term=% pentad=% earth=% anomalistic-month=% anomalistic-half=% solstice-epoch=% leap-epoch=% anomaly-epoch=%\n")
-    (oneDay ∷ fen ∷ miao ∷ solarYear ∷ half_year ∷ lunarMonth ∷ quarter_step ∷ term_step ∷ pentad_step ∷ earth_step ∷ anomalistic_month ∷ anomalistic_half ∷ shoushi.solstice ∷ shoushi.leap_remainder ∷ shoushi.anomaly ∷ [])
+    (one_day ∷ fen ∷ miao ∷ solar_year ∷ half_year ∷ lunar_month ∷ quarter_step ∷ term_step ∷ pentad_step ∷ earth_step ∷ anomalistic_month ∷ anomalistic_half ∷ shoushi.solstice ∷ shoushi.leap_remainder ∷ shoushi.anomaly ∷ [])
 
 unfoldable pub help_text : List ℕ
 help_text =

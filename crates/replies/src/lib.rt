@@ -1,4 +1,6 @@
 // The line of text that is written for each answer.
+#![tactic(auto)]
+
 mod line_texts;
 mod list_texts;
 

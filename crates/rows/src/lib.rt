@@ -1,4 +1,5 @@
 // What every question shares: its refusals by number, and the answer that is a number.
+#![tactic(auto)]
 
 // Refusals, by number.
 pub const NO_YEAR: u64 = 1;

@@ -1,4 +1,6 @@
 // The winter solstice, the terms with their pentads, and the days on which earth begins to rule.
+#![tactic(auto)]
+
 ghost use Rattle.std.specs.Prelude.{◌≡◌, ◌+◌, ◌≤◌, ◌<◌, length};
 ghost use Rattle.rows.specs.Reply.{answer_said};
 ghost use Rattle.measure.specs.Units.{last_year};

@@ -1,4 +1,6 @@
 // What the benchmarks call: proved functions behind C's interface.
+#![tactic(auto)]
+
 ghost use Rattle.std.specs.Prelude.{◌≡◌, ◌/◌, length};
 ghost use Rattle.measure.specs.Epoch.{shoushi};
 ghost use Rattle.rows.specs.Reply.{answer_said};

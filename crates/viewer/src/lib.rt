@@ -1,4 +1,6 @@
 // What the viewer calls: the month of a day, and the list of a year as bytes.
+#![tactic(auto)]
+
 mod record_bytes;
 
 ghost use Rattle.std.specs.Prelude.{◌≡◌, ◌<◌};

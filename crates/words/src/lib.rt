@@ -1,4 +1,6 @@
 // The words and parts of a line of text, and the numbers among them.
+#![tactic(auto)]
+
 pub mod decimals;
 
 ghost use Rattle.std.specs.Prelude.{◌≡◌};

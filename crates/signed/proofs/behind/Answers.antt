@@ -4,17 +4,10 @@ use native.Mathlib.Omega.{arith}
 use lib.IntN.{pos, neg_ℤ}
 use mir.Syntax.{w64}
 use mir.Facts.{to_z_pos}
-use borrow.Author.Rules.{rules}
 use Rattle.signed.proofs.Integers.{integer_behind, held, opposite, opposite_mag}
-use Rattle.signed.proofs.behind.Statement.{statement}
-use Rattle.signed.proofs.behind.Tie as tie
+use Rattle.signed.proofs.behind.Goals as goal
 
-sub_result : tie.Need-overflow-sub-result
-sub_result c =
-    let m = c.args.magnitude in
-    simp (to_z_pos w64 {n = m} (omega arith), opposite) (record { sfits = omega (arith, opposite_mag m) })
-
-returns : tie.Need-returns
+pub returns : goal.returns
 returns c =
     let m = c.args.magnitude in
     simp (
@@ -23,7 +16,3 @@ returns c =
       held (neg_ℤ (pos m)) (omega (arith, opposite_mag m)),
     )
     (sym (integer_behind m))
-
-pub behind_spec : {M : Type 1} → statement M
-behind_spec =
-    tie.close (tie.spec (search rules) sub_result returns)
