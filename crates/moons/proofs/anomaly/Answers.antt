@@ -1,0 +1,10 @@
+-- `moons::anomaly` meets its contract. Assumes nothing.
+use mathlib.Core.Path.{refl}
+use borrow.Author.Rules.{rules}
+use Rattle.moons.specs.Lunation.{anomaly}
+use Rattle.moons.proofs.anomaly.Goals as goal
+
+pub returns : goal.returns
+unfolding anomaly
+returns c =
+    refl
