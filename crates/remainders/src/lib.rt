@@ -17,6 +17,7 @@ pub enum HourAnswer {
 const KE: u64 = 1_200 * FEN;
 
 // The double-hour and the ke of a remainder. A day or more is outside.
+#[tactic(auto, unfolding(crate::specs::Hours::hour_reply, crate::specs::Hours::double_hour, crate::specs::Hours::ke))]
 pub fn double_hour(remainder: u64) -> HourAnswer
     ensures { hour_said result ≡ hour_reply remainder }
 {
@@ -45,6 +46,7 @@ const TERM_EXCESS: u64 = TERM_STEP - 15 * DAY;
 const MONTH_DEFICIT: u64 = 30 * DAY - MONTH;
 
 // The extra day of a term with this remainder. A day or more is outside.
+#[tactic(auto, unfolding(crate::specs::ExtraDays::extra_reply, crate::specs::ExtraDays::extra_day))]
 pub fn extra_day(remainder: u64) -> DaysAnswer
     ensures { days_said result ≡ extra_reply remainder }
 {
@@ -58,6 +60,7 @@ pub fn extra_day(remainder: u64) -> DaysAnswer
 }
 
 // The vanishing day of a mean new moon with this remainder. A day or more is outside.
+#[tactic(auto, unfolding(crate::specs::ExtraDays::vanishing_reply, crate::specs::ExtraDays::vanishing_day))]
 pub fn vanishing_day(remainder: u64) -> DaysAnswer
     ensures { days_said result ≡ vanishing_reply remainder }
 {

@@ -13,6 +13,7 @@ use measure::{EARTH_STEP, LAST_YEAR, PENTAD_STEP, SOLSTICE_EPOCH, TERM_STEP, TER
 use rows::{Answer, NO_YEAR, OUTSIDE, SHORT_ROW};
 
 // The running time of the solstice that year n begins with. A year past the last is refused with 1.
+#[tactic(auto, unfolding(crate::specs::Solstice::solstice_reply, crate::specs::Solstice::solstice))]
 pub fn solstice(n: u64) -> Answer
     ensures { answer_said result ≡ solstice_reply shoushi n }
 {
@@ -23,6 +24,7 @@ pub fn solstice(n: u64) -> Answer
 }
 
 // The running time of term i of year n. After the year, a term past the last is refused with 2.
+#[tactic(auto, unfolding(crate::specs::Terms::term_reply))]
 pub fn term(n: u64, i: u64) -> Answer
     ensures { answer_said result ≡ term_reply shoushi n i }
 {
@@ -36,6 +38,7 @@ pub fn term(n: u64, i: u64) -> Answer
 }
 
 // The running time of pentad p of term i of year n. After the year, a term or a pentad past its last is refused with 2.
+#[tactic(auto, using(crate::proofs::TermLaws::term_most), unfolding(crate::specs::Terms::pentad_reply, crate::specs::Terms::pentad))]
 pub fn pentad(n: u64, i: u64, p: u64) -> Answer
     ensures { answer_said result ≡ pentad_reply shoushi n i p }
 {
@@ -52,6 +55,7 @@ pub fn pentad(n: u64, i: u64, p: u64) -> Answer
 }
 
 // When earth begins to rule before middle term i of year n. After the year, a term that has no such day is refused with 2.
+#[tactic(auto, using(crate::proofs::TermLaws::term_least), unfolding(crate::specs::Terms::earth_reply, crate::specs::Terms::earth))]
 pub fn earth(n: u64, i: u64) -> Answer
     ensures { answer_said result ≡ earth_reply shoushi n i }
 {
@@ -65,6 +69,7 @@ pub fn earth(n: u64, i: u64) -> Answer
 }
 
 // The running time of term i of year n, for callers that know both to be admitted.
+#[tactic(auto, unfolding(crate::specs::Terms::term, crate::specs::Solstice::solstice))]
 pub fn term_time(n: u64, i: u64) -> u64
     requires { (n ≤ last_year + 1) × (i < terms) }
     ensures { result ≡ term shoushi n i }
@@ -73,6 +78,7 @@ pub fn term_time(n: u64, i: u64) -> u64
 }
 
 // The terms of year n from the row's start; how many there are. After the year, a row that is too short is refused with 4.
+#[tactic(auto, unfolding(crate::specs::Terms::terms_reply))]
 pub fn terms(n: u64, row: &mut [u64]) -> Answer
     ensures value { answer_said result ≡ terms_reply n (length row.old) }
     ensures writes { row.new ≡ row_after (terms_reply n (length row.old)) (term_list shoushi n) row.old }
@@ -88,6 +94,7 @@ pub fn terms(n: u64, row: &mut [u64]) -> Answer
 }
 
 // Each term is the one before it carried forward by one step, as learners add them up.
+#[tactic(auto, using(crate::proofs::TermLaws::term_most, crate::proofs::TermLaws::term_next, rows::proofs::Row::put_listed), unfolding(crate::specs::Terms::term_list, rows::specs::Row::over, rows::specs::Row::listed))]
 fn write_terms(n: u64, row: &mut [u64])
     requires { (n ≤ last_year) × (terms ≤ length row.old) }
     ensures { row.new ≡ over (term_list shoushi n) row.old }
