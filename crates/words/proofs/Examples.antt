@@ -1,6 +1,6 @@
 -- Examples of the definitions. Assumes nothing.
 use mathlib.Core.Path.{◌≡◌, refl}
-use Rattle.bytes.specs.Bytes.{index_of, index_after}
+use Rattle.words.specs.Search.{index_of}
 use Rattle.words.specs.Ascii.{bytes_of}
 use Rattle.words.specs.declared.decimals.Number.TheVariants.{Value, Bad}
 use Rattle.words.specs.Number.{digits, value, is_number, number_of}
@@ -23,5 +23,5 @@ lines : (numbers_of (bytes_of " 999 23") ≡ Two 999 23)
     × (numbers_of (bytes_of " 999 ") ≡ Other)
     × (numbers_of (bytes_of " 1 2 3 4") ≡ Other)
     × (numbers_of (bytes_of "") ≡ Nothing)
-unfolding digits value is_number number_of index_of index_after end_of part_of rest_of numbers_of
+unfolding digits value is_number number_of index_of end_of part_of rest_of numbers_of
 lines = (refl, refl, refl, refl, refl)

@@ -1,4 +1,5 @@
 pub mod Digits
+pub mod Search
 pub mod Examples
 pub mod Chosen
 pub mod Parts

@@ -6,14 +6,13 @@ use lib.ListN.{length, take, drop, get_or, length-drop}
 use lib.Seq.{take-length}
 use native.Mathlib.Omega.{arith}
 use borrow.Author.Tests.{eq-eqb, ne_eqb}
-use Rattle.bytes.specs.Bytes.{index_of, slice}
+use Rattle.words.specs.Search.{index_of}
 use Rattle.words.specs.Line.{word_of, after_word}
 use Rattle.words.specs.Numbers.{end_of, part_of, rest_of}
 
 -- where the word ends, as a search from the line's start answers it
-pub word_end_is : (line : List ℕ) → 0 + index_of 32 (slice 0 (length line) line) ≡ index_of 32 line
-unfolding slice
-word_end_is line = rw take-length (omega arith)
+pub word_end_is : (line : List ℕ) → 0 + index_of 32 (drop 0 line) ≡ index_of 32 line
+word_end_is line = omega arith
 
 module _ (line : List ℕ) (n : ℕ) (e : n ≡ index_of 32 line) where
   pub word_to : take (n - 0) (drop 0 line) ≡ word_of line
@@ -27,9 +26,9 @@ module _ (line : List ℕ) (n : ℕ) (e : n ≡ index_of 32 line) where
   after_from = rw (← length-drop n line) (take-length (drop n line)) ∙ ap (λ (k : ℕ). drop k line) e
 
 -- and the part, as a search from the place after its blank does
-pub end_is : (s : List ℕ) → 1 + index_of 32 (slice 1 (length s) s) ≡ end_of s
-unfolding end_of slice
-end_is s = rw take-length
+pub end_is : (s : List ℕ) → 1 + index_of 32 (drop 1 s) ≡ end_of s
+unfolding end_of
+end_is s = refl
 
 module _ (s : List ℕ) where
   pub part_other : (get_or s 0 0 ≡ 32 → ⊥) → part_of s ≡ []

@@ -1,11 +1,12 @@
--- The test of a word, tied to what `check::same` ensures. Assumes nothing.
+-- The test of a word, tied to what a test of two slices ensures. Assumes nothing.
 use Prim.Native.Nat.{ℕ}
-use mathlib.Core.Path.{◌≡◌, ◌∙◌, refl}
+use mathlib.Core.Path.{◌≡◌, ◌∙◌, refl, sym, ap}
 use mathlib.Core.List.{List, [], ◌∷◌}
-use mathlib.Core.Bool.{Bool, true, false, false≢true}
+use mathlib.Core.Bool.{Bool, true, false, false≢true, ◌&&◌}
 use borrow.Author.Tests.{eqb-true, eq-eqb}
 use lib.Dec.{eqb}
 use Rattle.rows.proofs.Choice.{left_passes, right_passes}
+use Rattle.std.specs.Str.{bytes_eq}
 use Rattle.words.specs.Text.{same}
 
 pub same_equal : (a b : List ℕ) → same a b ≡ true → a ≡ b
@@ -35,3 +36,15 @@ same_answer a b false h = not_true (same a b) (λ e. h.1 (same_equal a b e))
 -- the same, once a branch has told the answer
 pub told_same : {a b : List ℕ} {r s : Bool} → (r ≡ true → a ≡ b) × (a ≡ b → r ≡ true) → r ≡ s → same a b ≡ s
 told_same h e = same_answer _ _ _ h ∙ e
+
+-- a test of two slices goes byte by byte, as `same` does
+pub same_bytes : (a b : List ℕ) → same a b ≡ bytes_eq a b
+unfolding same
+same_bytes [] [] = refl
+same_bytes [] (y ∷ ys) = refl
+same_bytes (x ∷ xs) [] = refl
+same_bytes (x ∷ xs) (y ∷ ys) = ap (λ (t : Bool). eqb x y && t) (same_bytes xs ys)
+
+-- the same, once a branch has told its answer
+pub told_bytes : (a b : List ℕ) {r s : Bool} → r ≡ bytes_eq a b → r ≡ s → same a b ≡ s
+told_bytes a b h e = same_bytes a b ∙ sym h ∙ e

@@ -1,5 +1,6 @@
 pub mod Number
 pub mod Ascii
+pub mod Search
 pub mod Line
 pub mod Text
 pub mod Numbers

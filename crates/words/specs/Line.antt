@@ -1,7 +1,7 @@
 -- The word with which a line starts, and what follows it.
 -- Assumes nothing.
 use Rattle.std.specs.Prelude.{ℕ, List, take, drop}
-use Rattle.bytes.specs.Bytes.{index_of}
+use Rattle.words.specs.Search.{index_of}
 
 -- what stands before the first blank
 unfoldable pub word_of : List ℕ → List ℕ

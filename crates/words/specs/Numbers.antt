@@ -1,6 +1,6 @@
 -- The parts of a text, each with one blank before it, and the numbers among them. Assumes nothing.
 use Rattle.std.specs.Prelude.{ℕ, ◌+◌, ◌-◌, List, [], Bool, cond, length, get_or, take, drop, eqb}
-use Rattle.bytes.specs.Bytes.{index_of}
+use Rattle.words.specs.Search.{index_of}
 use Rattle.words.specs.declared.decimals.Number.{Number}
 use Rattle.words.specs.declared.decimals.Number.TheVariants.{Value, Bad}
 use Rattle.words.specs.declared.Numbers.{Numbers}

@@ -3,7 +3,8 @@
 
 pub mod decimals;
 
-ghost use Rattle.std.specs.Prelude.{◌≡◌};
+ghost use Rattle.std.specs.Prelude.{◌≡◌, ◌+◌, ◌≤◌, length, drop};
+ghost use Rattle.words.specs.Search.{index_of};
 ghost use Rattle.words.specs.Line.{word_of, after_word};
 ghost use Rattle.words.specs.Numbers.{part_of, rest_of, first, second, third, numbers_of};
 ghost use Rattle.words.specs.Place.{place_of};
@@ -21,11 +22,27 @@ pub enum Numbers {
     Other,
 }
 
+// Where the byte first stands in s, from a place on; where it does not, the end of s.
+fn find(s: &[u8], from: usize, b: u8) -> usize
+    requires { from ≤ length s.now }
+    ensures within { (from ≤ result) × (result ≤ length s.now) }
+    ensures value { result ≡ from + index_of b (drop from s.now) }
+{
+    let mut i = from;
+    while i < s.len() {
+        if s[i] == b {
+            return i;
+        }
+        i += 1;
+    }
+    i
+}
+
 // The word with which a line starts, as far as the first blank.
 pub fn word_in<'a>(line: &'a [u8]) -> &'a [u8]
     ensures { result.now ≡ word_of line.now }
 {
-    let end = bytes::scan::find(line, 0, line.len(), b' ');
+    let end = find(line, 0, b' ');
     &line[0..end]
 }
 
@@ -33,7 +50,7 @@ pub fn word_in<'a>(line: &'a [u8]) -> &'a [u8]
 pub fn after_word<'a>(line: &'a [u8]) -> &'a [u8]
     ensures { result.now ≡ after_word line.now }
 {
-    let from = bytes::scan::find(line, 0, line.len(), b' ');
+    let from = find(line, 0, b' ');
     &line[from..]
 }
 
@@ -94,7 +111,7 @@ pub fn part_in<'a>(s: &'a [u8]) -> &'a [u8]
     if s[0] != b' ' {
         return &s[0..0];
     }
-    let end = bytes::scan::find(s, 1, s.len(), b' ');
+    let end = find(s, 1, b' ');
     &s[1..end]
 }
 
@@ -105,7 +122,7 @@ pub fn rest_in<'a>(s: &'a [u8]) -> &'a [u8]
     if s.len() == 0 {
         return s;
     }
-    let from = bytes::scan::find(s, 1, s.len(), b' ');
+    let from = find(s, 1, b' ');
     &s[from..]
 }
 
@@ -116,7 +133,7 @@ pub fn place_of(word: &[u8], list: &[u8]) -> usize
     let mut left = list;
     let mut k: usize = 0;
     while 0 < left.len() {
-        if check::same(word, part_in(left)) {
+        if word == part_in(left) {
             return k;
         }
         let rest = rest_in(left);
