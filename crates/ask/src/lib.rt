@@ -27,7 +27,7 @@ pub const YEARS_ROOM: usize = 2_097_152;
 
 // How many bytes of text were written, with refused 0. Where the row has too little room refused is 4, and no byte was written.
 #[repr(C)]
-#[derive(Drop)]
+#[derive(Clone, Copy)]
 pub struct Written {
     pub refused: u64,
     pub bytes: u64,

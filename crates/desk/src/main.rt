@@ -17,7 +17,7 @@ use libc::{STDERR_FILENO, STDIN_FILENO, STDOUT_FILENO};
 use reads::Got;
 
 // How a turn ends: with so many bytes kept of a line that was begun, at the input's end, or by a failed write.
-#[derive(Drop)]
+#[derive(Clone, Copy)]
 enum Turn {
     Begun(usize),
     Ended,
@@ -180,7 +180,7 @@ fn join(line: &mut [u8], n: usize, i: usize, count: usize) -> usize
 }
 
 // What the arguments ask: a line of so many bytes, or nothing where there are none.
-#[derive(Drop)]
+#[derive(Clone, Copy)]
 enum Asked {
     Line(usize),
     Nothing,

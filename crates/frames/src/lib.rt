@@ -128,7 +128,7 @@ fn number_spelled(digits: &[u8]) -> Answer
     Answer::Number(n)
 }
 
-#[derive(Drop)]
+#[derive(Clone, Copy)]
 enum Digit {
     Worth(u64),
     Nothing,

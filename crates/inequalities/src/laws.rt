@@ -5,7 +5,7 @@ ghost use Rattle.inequalities.specs.Evaluation.{law_said, Evaluated};
 
 use measure::over_day;
 
-#[derive(Drop)]
+#[derive(Clone, Copy)]
 pub struct Coefficients {
     pub first: u64,
     pub second: u64,

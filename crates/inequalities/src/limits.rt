@@ -6,7 +6,7 @@ ghost use Rattle.inequalities.specs.Limits.{limits, whole_limit, from_nearer_end
 use measure::DAY;
 
 // Quick is positive, tardy negative.
-#[derive(Drop)]
+#[derive(Clone, Copy)]
 pub enum LunarHalf {
     Quick,
     Tardy,

@@ -10,7 +10,7 @@ use rows::OUTSIDE;
 use signed::{SignedAnswer, ahead, behind};
 
 // Fast is positive, slow negative.
-#[derive(Drop)]
+#[derive(Clone, Copy)]
 pub enum SolarHalf {
     Fast,
     Slow,

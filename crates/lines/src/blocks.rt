@@ -12,7 +12,7 @@ use rows::Answer;
 const ENOUGH: usize = 6;
 
 // How many bytes were written, and how many of an unfinished line stand at the buffer's start.
-#[derive(Drop)]
+#[derive(Clone, Copy)]
 pub struct Block {
     pub written: usize,
     pub kept: usize,

@@ -57,7 +57,7 @@ pub fn remainder_of(time: u64) -> u64
 }
 
 // A day's name among the sixty, with its stem and its branch, each counted from 0.
-#[derive(Drop)]
+#[derive(Clone, Copy)]
 pub struct Name {
     pub name: u64,
     pub stem: u64,

@@ -14,14 +14,14 @@ use lines::blocks::Block;
 use reads::Got;
 
 // What was read: no more, so that the last line was answered in so many bytes; or a block, which was answered.
-#[derive(Drop)]
+#[derive(Clone, Copy)]
 enum Read {
     Last(usize),
     Part(Block),
 }
 
 // How a turn ends: with so many bytes of an unfinished line at the buffer's start, or all is over.
-#[derive(Drop)]
+#[derive(Clone, Copy)]
 enum Turn {
     Kept(usize),
     Over,

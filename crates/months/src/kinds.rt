@@ -3,7 +3,7 @@ ghost use Rattle.std.specs.Prelude.{◌≡◌};
 ghost use Rattle.months.specs.Kind.{kind_said, number_in, mark_in};
 
 // A month is ordinary or leap, with its number inside.
-#[derive(Drop)]
+#[derive(Clone, Copy)]
 pub enum Kind {
     Ordinary(u64),
     Leap(u64),

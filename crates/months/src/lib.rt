@@ -22,7 +22,7 @@ use moons::MEAN_START;
 use rows::{Answer, NO_DAY, NO_YEAR};
 
 // The month of a day: places count from 0, days of a month from 1.
-#[derive(Drop)]
+#[derive(Clone, Copy)]
 pub struct Month {
     pub kind: Kind,
     pub year: u64,
@@ -32,7 +32,7 @@ pub struct Month {
     pub length: u64,
 }
 
-#[derive(Drop)]
+#[derive(Clone, Copy)]
 pub enum MonthAnswer {
     Month(Month),
     Refused(u64),
@@ -66,7 +66,7 @@ pub fn month_of(d: u64) -> MonthAnswer
 }
 
 // A month by its lunation, with its first day and that of the next.
-#[derive(Drop)]
+#[derive(Clone, Copy)]
 pub struct Span {
     pub lunation: u64,
     pub first: u64,

@@ -19,7 +19,7 @@ use signed::SignedAnswer;
 use words::Numbers;
 
 // The calendar's answer, by the kind of what was asked for.
-#[derive(Drop)]
+#[derive(Clone, Copy)]
 pub enum DeskAnswer {
     // No question.
     Malformed,

@@ -28,7 +28,7 @@ pub(crate) fn on_marks(text: &[u8], row: &mut [u64]) -> DeskAnswer
 }
 
 // The sheet with the marks of a text: whole where the text is nothing but marks, else blank.
-#[derive(Drop)]
+#[derive(Clone, Copy)]
 struct SheetRead {
     sheet: Sheet,
     whole: bool,
@@ -53,7 +53,7 @@ fn sheet_in(text: &[u8]) -> SheetRead
     SheetRead { sheet, whole: true }
 }
 
-#[derive(Drop)]
+#[derive(Clone, Copy)]
 enum MarkRead {
     Read(Mark),
     Unread,

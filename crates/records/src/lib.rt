@@ -16,7 +16,7 @@ ghost use Rattle.records.specs.MonthRecords.{record_in, in_records, written_in};
 use measure::LAST_YEAR;
 use rows::Answer;
 
-#[derive(Drop)]
+#[derive(Clone, Copy)]
 pub struct MonthRecord {
     pub first: u64,
     pub length: u64,

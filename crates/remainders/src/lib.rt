@@ -8,7 +8,7 @@ ghost use Rattle.remainders.specs.ExtraDays.{extra_reply, vanishing_reply, days_
 use measure::{DAY, FEN, MONTH, TERM_STEP};
 use rows::OUTSIDE;
 
-#[derive(Drop)]
+#[derive(Clone, Copy)]
 pub enum HourAnswer {
     At { double_hour: u64, ke: u64 },
     Refused(u64),
@@ -32,7 +32,7 @@ pub fn double_hour(remainder: u64) -> HourAnswer
 }
 
 // How many days after its term or its new moon a day falls, if there is one.
-#[derive(Drop)]
+#[derive(Clone, Copy)]
 pub enum DaysAnswer {
     Add(u64),
     Nothing,

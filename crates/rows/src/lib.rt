@@ -13,7 +13,7 @@ pub const SHORT_ROW: u64 = 4;
 pub const BAD_LINE: u64 = 5;
 
 // A number that was asked for, or a refusal's number.
-#[derive(Drop)]
+#[derive(Clone, Copy)]
 pub enum Answer {
     Number(u64),
     Refused(u64),

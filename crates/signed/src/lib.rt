@@ -6,7 +6,7 @@ ghost use Rattle.measure.specs.Units.{day};
 ghost use Rattle.signed.specs.Signed.{ahead_by, behind_by, integer};
 
 // A signed number that was asked for, or a refusal's number.
-#[derive(Drop)]
+#[derive(Clone, Copy)]
 pub enum SignedAnswer {
     Number(i64),
     Refused(u64),

@@ -18,7 +18,7 @@ use seasons::term_time;
 
 // An answer's number, with refused 0; a refusal has its number in refused, and 0 for the other.
 #[repr(C)]
-#[derive(Drop)]
+#[derive(Clone, Copy)]
 pub struct Timed {
     pub refused: u64,
     pub number: u64,

@@ -24,7 +24,7 @@ use rows::{Answer, SHORT_ROW};
 
 // A reply about a day. In a month, refused is 0; a refusal has its number there and 0 in every other field. No month has length 0.
 #[repr(C)]
-#[derive(Drop)]
+#[derive(Clone, Copy)]
 pub struct Day {
     pub first: u32,
     pub year: u16,
@@ -38,7 +38,7 @@ pub struct Day {
 
 // How many records were written. Where the question is refused, its number stands in refused and no record was written.
 #[repr(C)]
-#[derive(Drop)]
+#[derive(Clone, Copy)]
 pub struct Count {
     pub refused: u32,
     pub records: u32,

@@ -13,7 +13,7 @@ ghost use Rattle.words.specs.declared.decimals.Number.TheVariants.{Value};
 use crate::decimals::{Number, number_in};
 
 // Up to three numbers; Other where there are more, or something else.
-#[derive(Drop)]
+#[derive(Clone, Copy)]
 pub enum Numbers {
     Nothing,
     One(u64),
