@@ -1,7 +1,7 @@
 /*
  * ask.h: every question of the desk, a line in and the text of its reply out, for C and C++.
  *
- * `rt staticlib ask` makes the archive for x86-64, and `tools/native ask OUT` the same for the machine at hand. The function is
+ * `tools/native ask OUT` makes the archive, for the machine at hand; the crate ask_c has what it exports. The function is
  * proved to answer every line and every row that it can be given, to touch no memory but these two, and to return; it keeps nothing
  * between calls and may be called from several threads at once. README.md has the questions and the refusals.
  */

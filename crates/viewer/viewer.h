@@ -1,7 +1,7 @@
 /*
  * viewer.h: the two questions of the Shoushi calendar that a viewer asks, for C and C++.
  *
- * `rt staticlib viewer` makes the archive for x86-64, and `tools/native viewer OUT` the same for the machine at hand. Both
+ * `tools/native viewer OUT` makes the archive, for the machine at hand; the crate viewer_c has what it exports. Both
  * functions are proved to answer every number and every row that they can be given, to touch no memory but the row, and to
  * return; they keep nothing between calls and may be called from several threads at once. specs/ has what they answer.
  *

@@ -35,8 +35,7 @@ pub struct Written {
 
 // The text that the desk replies to a line, with its line end, from the row's start; a question that it refuses has a text too. A row without
 // the room that a line asks for is refused with 4.
-#[unsafe(no_mangle)]
-pub extern "C" fn lengadriu_ask(line: &[u8], row: &mut [u8]) -> Written
+pub fn lengadriu_ask(line: &[u8], row: &mut [u8]) -> Written
     ensures value { result ≡ written_told (answer_reply shoushi line.now (length row.old)) }
     ensures writes { row.new ≡ row_after (answer_reply shoushi line.now (length row.old)) (answer_text shoushi line.now) row.old }
 {

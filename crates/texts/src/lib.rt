@@ -79,6 +79,6 @@ fn put_number(n: u64, row: &mut [u8]) -> usize
 {
     let mut digits = [0u8; MOST_DIGITS];
     let k = io::decimal(n, &mut digits);
-    bytes::copy(&digits[..k], row);
+    row[..k].copy_from_slice(&digits[..k]);
     k
 }

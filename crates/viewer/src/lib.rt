@@ -45,8 +45,7 @@ pub struct Count {
 }
 
 // The month in which a day lies. A day outside the calendar is refused with 3.
-#[unsafe(no_mangle)]
-pub extern "C" fn lengadriu_day(d: u64) -> Day
+pub fn lengadriu_day(d: u64) -> Day
     ensures { result ≡ day_told (day_reply shoushi d) }
 {
     match months::month_of(d) {
@@ -57,8 +56,7 @@ pub extern "C" fn lengadriu_day(d: u64) -> Day
 
 // The records of year n as bytes, from the row's start; how many there are. A year past the last is refused with 1, then a row without
 // room for 13 records with 4.
-#[unsafe(no_mangle)]
-pub extern "C" fn lengadriu_year(row: &mut [u8], n: u64) -> Count
+pub fn lengadriu_year(row: &mut [u8], n: u64) -> Count
     ensures value { result ≡ count_told (list_reply shoushi n (room_in row.old)) }
     ensures writes { row.new ≡ row_after (list_reply shoushi n (room_in row.old)) (low_first_bytes (records_of (calendar shoushi) n (months_in (calendar shoushi) n))) row.old }
 {
