@@ -1,29 +1,15 @@
 -- Laws of lines: the first line of an input and what is handed on.
 -- Assumes nothing.
 use mathlib.Core.Bool.{Bool, true, false}
-use mathlib.Core.Path.{◌≡◌, refl}
+use mathlib.Core.Path.{◌≡◌}
 use mathlib.Core.List.{List, [], ◌∷◌}
 use Prim.Native.Nat.{ℕ, suc, ◌+◌, ◌-◌, ◌≤◌, ◌<◌}
 use native.Mathlib.Numerals.{add-one}
 use native.Mathlib.Omega.{arith}
 use lib.ListN.{length, get_or, drop, length-drop}
-use lib.Seq.{take-length, drop-cons}
-use Rattle.bytes.specs.Bytes.{index_of, index_after, slice}
+use lib.Seq.{drop-cons}
 use Rattle.rows.specs.Choice.{if◌then◌else◌, ◌=?◌}
 use Rattle.frames.specs.LineEnds.{line_end, line_length, rest_after}
-
--- a line is as long as the search for its end says
-pub length_sought : (input : List ℕ) → index_of line_end (slice 0 (length input) input) ≡ line_length input
-unfolding slice index_of index_after line_length
-length_sought input = rw take-length (sought input)
-  where
-    ends : (t : Bool) (n : ℕ) → index_after t n ≡ (if t then 0 else suc n)
-    ends true n = refl
-    ends false n = refl
-
-    sought : (bs : List ℕ) → index_of line_end bs ≡ line_length bs
-    sought [] = refl
-    sought (b ∷ bs) = rw (sought bs) (ends (b =? line_end) (line_length bs))
 
 -- one byte more of a line
 pub length_step : (input : List ℕ) (n : ℕ) → n < length input

@@ -24,7 +24,12 @@ pub const DAY_DIGITS: usize = 5;
 pub fn line_len(input: &[u8]) -> usize
     ensures { result ≡ line_length input.now }
 {
-    bytes::scan::find(input, 0, input.len(), LINE_END)
+    for (i, b) in input.iter().enumerate() {
+        if *b == LINE_END {
+            return i;
+        }
+    }
+    input.len()
 }
 
 // The rest of the input, after a line of n bytes and its line end. It is handed on as it stands.
