@@ -13,8 +13,10 @@ ghost use Rattle.desk.specs.Input.{with_more, last_text, Left, with_blank, with_
 
 use ask::YEARS_ROOM;
 use frames::LINE_END;
-use libc::{STDERR_FILENO, STDIN_FILENO, STDOUT_FILENO};
 use reads::Got;
+use std::env::FillError;
+use std::io::Read;
+use std::rt::Env;
 
 // How a turn ends: with so many bytes kept of a line that was begun, at the input's end, or by a failed write.
 #[derive(Clone, Copy)]
@@ -36,20 +38,20 @@ fn answered(line: &[u8], buf: &mut [u8]) -> usize
 }
 
 // Writes out; whether all of it went through. Where it did not, standard error says so, since a program has no exit status.
-fn write_out(out: &[u8]) -> bool {
-    let ok = io::write_all(STDOUT_FILENO, out);
+fn write_out(rt: &(impl Print + Eprint), out: &[u8]) -> bool {
+    let ok = rt.write_all(out).is_ok();
     if !ok {
-        io::write_all(STDERR_FILENO, b"desk: the output is cut short\n");
+        let _ = rt.eprintln("desk: the output is cut short");
     }
     ok
 }
 
 // Answers a line; whether the reply was written out.
-fn answer_line(line: &[u8], buf: &mut [u8]) -> bool
+fn answer_line(rt: &(impl Print + Eprint), line: &[u8], buf: &mut [u8]) -> bool
     requires { years_room ≤ length buf.old }
 {
     let n = answered(line, buf);
-    write_out(&buf[..n])
+    write_out(rt, &buf[..n])
 }
 
 // One byte more of a line; how many are kept then. A full buffer drops the byte: a line so long is refused.
@@ -67,7 +69,13 @@ fn keep(line: &mut [u8], kept: usize, b: u8) -> usize
 }
 
 // Answers the lines that end in a block, and keeps what it has of the next. A failed write ends it.
-fn answer_block(block: &[u8], line: &mut [u8], kept: usize, buf: &mut [u8]) -> Turn
+fn answer_block(
+    rt: &(impl Print + Eprint),
+    block: &[u8],
+    line: &mut [u8],
+    kept: usize,
+    buf: &mut [u8],
+) -> Turn
     requires { (0 < length block.now) × (kept ≤ length line.old) × (years_room ≤ length buf.old) }
     ensures { Left result line.new (length line.old) (take kept line.old) block.now }
 {
@@ -77,7 +85,7 @@ fn answer_block(block: &[u8], line: &mut [u8], kept: usize, buf: &mut [u8]) -> T
     while i < block.len() && more {
         let b = block[i];
         if b == LINE_END {
-            more = answer_line(&line[0..n], buf);
+            more = answer_line(rt, &line[0..n], buf);
             n = 0;
         } else {
             n = keep(line, n, b);
@@ -101,43 +109,49 @@ fn last_reply(line: &[u8], buf: &mut [u8]) -> usize
 }
 
 // A block as it was read. Where nothing was, the input has ended, and so has a line that was begun.
-fn answer_read(block: &[u8], line: &mut [u8], kept: usize, buf: &mut [u8]) -> Turn
+fn answer_read(
+    rt: &(impl Print + Eprint),
+    block: &[u8],
+    line: &mut [u8],
+    kept: usize,
+    buf: &mut [u8],
+) -> Turn
     requires { (kept ≤ length line.old) × (years_room ≤ length buf.old) }
     ensures { Left result line.new (length line.old) (take kept line.old) block.now }
 {
     if block.len() == 0 {
         let n = last_reply(&line[0..kept], buf);
-        write_out(&buf[..n]);
+        write_out(rt, &buf[..n]);
         return Turn::Ended;
     }
-    answer_block(block, line, kept, buf)
+    answer_block(rt, block, line, kept, buf)
 }
 
 // Reads once.
-fn read_block(block: &mut [u8]) -> Got
+fn read_block(input: &mut impl Read, block: &mut [u8]) -> Got
     ensures { Within result (length block.old) }
 {
-    let answered = libc::read(STDIN_FILENO, block);
+    let answered = match input.read(block) {
+        Ok(n) => n as isize,
+        Err(_) => -1,
+    };
     reads::given(answered, block)
 }
 
 // Nothing says that the input ends, so the turns are counted down from a number that no run uses up. A failed read is told, and a line that
 // was begun has no reply then: its end was not seen.
-fn answer_lines(line: &mut [u8], buf: &mut [u8])
+fn answer_lines(rt: &(impl Print + Eprint), input: &mut impl Read, line: &mut [u8], buf: &mut [u8])
     requires { years_room ≤ length buf.old }
 {
-    let mut block = io::large_buffer();
+    let mut block = block_buffer();
     let mut kept: usize = 0;
     let mut turns = u64::MAX;
     while turns > 0 {
-        let Got::Bytes(read) = read_block(&mut block) else {
-            io::write_all(
-                STDERR_FILENO,
-                b"desk: the input could not be read to its end\n",
-            );
+        let Got::Bytes(read) = read_block(input, &mut block) else {
+            let _ = rt.eprintln("desk: the input could not be read to its end");
             return;
         };
-        let Turn::Begun(n) = answer_read(&block[..read], line, kept, buf) else {
+        let Turn::Begun(n) = answer_read(rt, &block[..read], line, kept, buf) else {
             return;
         };
         kept = n;
@@ -168,15 +182,27 @@ fn with_argument(error: i32, from: usize, got: usize, room: usize) -> usize
 }
 
 // Argument i, of so many, after the line's first n bytes; how many the line then has.
-fn join(line: &mut [u8], n: usize, i: usize, count: usize) -> usize
+fn join(rt: &impl Env, line: &mut [u8], n: usize, i: usize, count: usize) -> usize
     requires { (n ≤ length line.old) × (i < count) }
     ensures within { result ≤ length line.old }
     ensures begins { Begins (take result line.new) (with_blank (length line.old) i (take n line.old)) }
 {
     let from = blank_before(line, n, i);
-    let got = os::arg(i, &mut line[from..]);
-    let error = os::errno();
-    with_argument(error, from, got, line.len())
+    match rt.arg(i, &mut line[from..]) {
+        Ok(got) => with_argument(0, from, got, line.len()),
+        Err(_) => with_argument(1, from, 0, line.len()),
+    }
+}
+
+// How many arguments there are, the program's own name among them.
+fn argument_count(rt: &impl Env) -> usize {
+    let mut first = [0u8; 1];
+    for i in 0..usize::MAX {
+        if let Err(FillError::NotPresent) = rt.arg(i, &mut first) {
+            return i;
+        }
+    }
+    usize::MAX
 }
 
 // What the arguments ask: a line of so many bytes, or nothing where there are none.
@@ -187,13 +213,13 @@ enum Asked {
 }
 
 // The arguments as one line. The first is the program's own name.
-fn join_arguments(line: &mut [u8], count: usize) -> Asked
+fn join_arguments(rt: &impl Env, line: &mut [u8], count: usize) -> Asked
     ensures { AskedBy result count (length line.old) }
 {
     let mut n: usize = 0;
     let mut i: usize = 1;
     while i < count {
-        n = join(line, n, i, count);
+        n = join(rt, line, n, i, count);
         i += 1;
     }
     if i == 1 {
@@ -203,14 +229,14 @@ fn join_arguments(line: &mut [u8], count: usize) -> Asked
 }
 
 // A question of the arguments where there are any, else those of the input's lines.
-fn answer(line: &mut [u8], buf: &mut [u8])
+fn answer(rt: &(impl Env + Print + Eprint), input: &mut impl Read, line: &mut [u8], buf: &mut [u8])
     requires { years_room ≤ length buf.old }
 {
-    match join_arguments(line, os::arg_count()) {
+    match join_arguments(rt, line, argument_count(rt)) {
         Asked::Line(n) => {
-            answer_line(&line[0..n], buf);
+            answer_line(rt, &line[0..n], buf);
         }
-        Asked::Nothing => answer_lines(line, buf),
+        Asked::Nothing => answer_lines(rt, input, line, buf),
     }
 }
 
@@ -223,6 +249,15 @@ fn line_buffer() -> [u8; LINE]
     [0; LINE]
 }
 
+// Room for a block of the input.
+const BLOCK: usize = 65_536;
+
+fn block_buffer() -> [u8; BLOCK]
+    ensures { 65_536 ≡ length result }
+{
+    [0; BLOCK]
+}
+
 // Room for the longest reply.
 fn reply_buffer() -> [u8; YEARS_ROOM]
     ensures { 2_097_152 ≡ length result }
@@ -230,8 +265,9 @@ fn reply_buffer() -> [u8; YEARS_ROOM]
     [0; YEARS_ROOM]
 }
 
-fn main() {
+fn main(rt: HostRuntime) {
+    let mut input = rt.stdin();
     let mut line = line_buffer();
     let mut buf = reply_buffer();
-    answer(&mut line, &mut buf);
+    answer(&rt, &mut input, &mut line, &mut buf);
 }

@@ -8,10 +8,10 @@ ghost use Rattle.lines.specs.Line.{reply_room};
 ghost use Rattle.lines.specs.Block.{enough, Unfinished};
 ghost use Rattle.month_lines.specs.Input.{read_of, written_for, kept_for, replies_in, turn_after, Left};
 
-use libc::{STDERR_FILENO, STDIN_FILENO, STDOUT_FILENO};
 use lines::REPLY_ROOM;
 use lines::blocks::Block;
 use reads::Got;
+use std::io::Read as ReadBytes;
 
 // What was read: no more, so that the last line was answered in so many bytes; or a block, which was answered.
 #[derive(Clone, Copy)]
@@ -31,6 +31,13 @@ const BUFFER: usize = 65_536;
 
 const ROOM: usize = REPLY_ROOM * BUFFER;
 
+// Room for a block of the input.
+fn block_buffer() -> [u8; BUFFER]
+    ensures { 65_536 ≡ length result }
+{
+    [0; BUFFER]
+}
+
 // Room for the replies to a full buffer.
 fn reply_buffer() -> [u8; ROOM]
     ensures { 196_608 ≡ length result }
@@ -39,21 +46,24 @@ fn reply_buffer() -> [u8; ROOM]
 }
 
 // Reads once, after the kept bytes, which stay.
-fn read_more(buf: &mut [u8], kept: usize) -> Got
+fn read_more(input: &mut impl ReadBytes, buf: &mut [u8], kept: usize) -> Got
     requires { kept ≤ length buf.old }
     ensures within { Within result (length buf.old - kept) }
     ensures buf_unchanged { take kept buf.new ≡ take kept buf.old }
 {
     let part = &mut buf[kept..];
-    let answered = libc::read(STDIN_FILENO, part);
+    let answered = match input.read(part) {
+        Ok(n) => n as isize,
+        Err(_) => -1,
+    };
     reads::given(answered, part)
 }
 
 // Writes out; whether all of it went through. Where it did not, standard error says so, since a program has no exit status.
-fn write_out(out: &[u8]) -> bool {
-    let ok = io::write_all(STDOUT_FILENO, out);
+fn write_out(rt: &(impl Print + Eprint), out: &[u8]) -> bool {
+    let ok = rt.write_all(out).is_ok();
     if !ok {
-        io::write_all(STDERR_FILENO, b"month_lines: the output is cut short\n");
+        let _ = rt.eprintln("month_lines: the output is cut short");
     }
     ok
 }
@@ -99,32 +109,36 @@ fn turn_after(read: Read, went: bool) -> Turn
 
 // One turn: reads, and writes the replies to what was read. A failed write ends it, and a failed read, which is told; a line that was begun
 // has no reply then: its end was not seen.
-fn one_turn(buf: &mut [u8], out: &mut [u8], kept: usize) -> Turn
+fn one_turn(
+    rt: &(impl Print + Eprint),
+    input: &mut impl ReadBytes,
+    buf: &mut [u8],
+    out: &mut [u8],
+    kept: usize,
+) -> Turn
     requires kept_le_enough { (kept ≤ enough) × (enough ≤ length buf.old) × (reply_room * length buf.old ≤ length out.old) }
     requires unfinished { Unfinished (take kept buf.old) }
     ensures { Left result (take kept buf.old) buf.new }
 {
-    let Got::Bytes(more) = read_more(buf, kept) else {
-        io::write_all(
-            STDERR_FILENO,
-            b"month_lines: the input could not be read to its end\n",
-        );
+    let Got::Bytes(more) = read_more(input, buf, kept) else {
+        let _ = rt.eprintln("month_lines: the input could not be read to its end");
         return Turn::Over;
     };
     let read = answer_read(buf, kept, kept + more, out);
     let n = replies_in(read);
-    let went = write_out(&out[..n]);
+    let went = write_out(rt, &out[..n]);
     turn_after(read, went)
 }
 
 // Nothing says that the input ends, so the turns are counted down from a number that no run uses up.
-fn main() {
-    let mut buf = io::large_buffer();
+fn main(rt: HostRuntime) {
+    let mut input = rt.stdin();
+    let mut buf = block_buffer();
     let mut out = reply_buffer();
     let mut kept: usize = 0;
     let mut turns = u64::MAX;
     while turns > 0 {
-        let Turn::Kept(n) = one_turn(&mut buf, &mut out, kept) else {
+        let Turn::Kept(n) = one_turn(&rt, &mut input, &mut buf, &mut out, kept) else {
             return;
         };
         kept = n;
