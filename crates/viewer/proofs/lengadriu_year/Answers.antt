@@ -1,0 +1,51 @@
+-- `viewer::lengadriu_year` meets its contract: its numbers have room for every year, so they get the year's records or its refusal, and
+-- what the row is too short for is refused after that.
+-- Assumes nothing.
+use mathlib.Core.List.{List}
+use mathlib.Core.Path.{◌∙◌, sym, ap}
+use Prim.Native.Nat.{ℕ}
+use native.Mathlib.Omega.{arith}
+use Rattle.rows.specs.Row.{over}
+use Rattle.viewer.specs.Bytes.{low_first_bytes}
+use Rattle.viewer.specs.Room.{room_in}
+use Rattle.viewer.specs.Told.{count_told}
+use Rattle.viewer.proofs.YearReply.{count_most, short_refused, long_answered, numbers_given, year_refused, refused_in_any}
+use Rattle.viewer.proofs.lengadriu_year.Goals as goal
+
+pub returns-then-row : goal.returns-then-row
+unfolding room_in
+returns-then-row c =
+    let reply =
+    short_refused c.args.n _ c.list.result c.list.ensures.value c.in-Number.is (room_in c.args.row.now)
+    c.if-row.true in
+    record { value = c.count_refused.ensures ∙ ap count_told (sym reply); writes = rw reply }
+
+pub overflow_mul-records : goal.overflow_mul-records
+overflow_mul-records c =
+    omega (arith, count_most c.args.n c.in-Number.records c.list.result c.list.ensures.value c.in-Number.is)
+
+pub put_numbers-requires : goal.put_numbers-requires
+put_numbers-requires c =
+    let few = count_most c.args.n c.in-Number.records c.list.result c.list.ensures.value c.in-Number.is in
+    (omega (arith, few, c.list.auto.row), omega (arith, few, c.if-row.false))
+
+pub overflow_cast-result : goal.overflow_cast-result
+overflow_cast-result c =
+    omega (arith, count_most c.args.n c.in-Number.records c.list.result c.list.ensures.value c.in-Number.is)
+
+pub count_refused-requires-in-Refused : goal.count_refused-requires-in-Refused
+count_refused-requires-in-Refused c =
+    omega (arith, year_refused c.args.n c.in-Refused.k c.list.result c.list.ensures.value c.in-Refused.is)
+
+pub returns-else-row : goal.returns-else-row
+unfolding room_in
+returns-else-row c =
+    let reply =
+    long_answered c.args.n _ c.list.result c.list.ensures.value c.in-Number.is (room_in c.args.row.now)
+    c.if-row.false in
+    let numbers = numbers_given c.args.n _ c.list.result c.list.ensures.value c.in-Number.is _ _ c.list.ensures.writes in record { value = ap count_told (sym reply); writes = rw reply (c.put_numbers.ensures ∙ ap (λ (l : List ℕ). over (low_first_bytes l) c.args.row.now) numbers) }
+
+pub returns-in-Refused : goal.returns-in-Refused
+returns-in-Refused c =
+    let reply = refused_in_any c.args.n _ c.list.result c.list.ensures.value c.in-Refused.is (room_in c.args.row.now) in
+    record { value = c.count_refused-in-Refused.ensures ∙ ap count_told (sym reply); writes = rw reply }
