@@ -1,6 +1,7 @@
 //! Proves the crates `viewer` and `ask`, has them compiled for the machine at hand, and links their archives.
 
 use std::env;
+use std::fs;
 use std::path::{Path, PathBuf};
 use std::process::Command;
 
@@ -8,10 +9,12 @@ fn main() {
     let here = PathBuf::from(env::var_os("CARGO_MANIFEST_DIR").expect("cargo names the package"));
     let out = PathBuf::from(env::var_os("OUT_DIR").expect("cargo gives a folder"));
     let root = here.parent().expect("the package stands in the repository");
-    for each in ["crates", "crates.txt", "tools/native"] {
+    for each in ["crates.txt", "tools/native"] {
         println!("cargo:rerun-if-changed={}", root.join(each).display());
     }
-    println!("cargo:rerun-if-env-changed=RATTLE_HOME");
+    for folder in sources(&root.join("crates")) {
+        println!("cargo:rerun-if-changed={}", folder.display());
+    }
     println!("cargo:rustc-link-search=native={}", out.display());
     for name in ["viewer", "ask"] {
         build(&root.join("tools/native"), name, &out);
@@ -19,6 +22,16 @@ fn main() {
     }
     // for the tests that call the archives from C
     println!("cargo:rustc-env=VIEWER_ARCHIVE_FOLDER={}", out.display());
+}
+
+/// Returns the folders of all crates in which sources lie. What rt makes beside them is none.
+fn sources(crates: &Path) -> Vec<PathBuf> {
+    let listed = fs::read_dir(crates).expect("the crates are there");
+    listed
+        .map(|each| each.expect("a crate can be read").path())
+        .flat_map(|each| ["src", "specs", "proofs"].map(|part| each.join(part)))
+        .filter(|each| each.is_dir())
+        .collect()
 }
 
 fn build(native: &Path, name: &str, out: &Path) {

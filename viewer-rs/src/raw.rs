@@ -1,5 +1,6 @@
 //! The functions of the two proved archives, and all of the viewer's unsafe code. Nothing but the tests holds these
-//! declarations to `src/lib.rt` of the crates `viewer` and `ask`; `viewer.h` and `ask.h` there say the same in C.
+//! declarations to `src/lib.rt` of the crates `viewer_c` and `ask_c`; `viewer.h` and `ask.h`, of the crates `viewer` and
+//! `ask` below these, say the same in C.
 //! Beside them stands one function of the system's C library, which asks about a terminal.
 
 /// A reply about a day. In a month `refused` is 0; a refusal has its number there and 0 elsewhere.

@@ -51,6 +51,7 @@ pub extern "C" fn timing_terms(row: &mut [u64], n: u64) -> Timed
 }
 
 // The same, each multiplied anew: what carrying them is timed against.
+#[tactic(auto, using(rows::proofs::Row::put_listed), unfolding(seasons::specs::Terms::term_list, seasons::specs::Terms::terms_reply, rows::specs::Row::over, rows::specs::Row::listed))]
 #[unsafe(no_mangle)]
 pub extern "C" fn timing_terms_anew(row: &mut [u64], n: u64) -> Timed
     ensures value { result ≡ number_told (terms_reply n (length row.old)) }
