@@ -8,6 +8,12 @@ use native.Mathlib.Omega.{arith}
 use contract.Lifetimes.{Lfts}
 use borrow.Fn.Kinds.{Dens, res_t, ended_of}
 use denote.Triple.Clauses.{AtExit}
+use mir.Syntax.{Dict}
+use denote.RattleType.{RattleType}
+use denote.Param.Laws.{Laws}
+use Rattle.std.specs.declared.io.Print as Print
+use Rattle.std.specs.declared.io.Eprint as Eprint
+use Rattle.std.specs.declared.env.Env as Env
 use lib.ListN.{take}
 use Rattle.rows.proofs.Determined.{OneReply, OneOutcome}
 use Rattle.desk.specs.Input.{Left, AskedBy}
@@ -70,19 +76,22 @@ one_turn_lem CutShort (Begun n) s t room line block p q = tt
 one_turn_lem CutShort Ended s t room line block p q = omega arith
 one_turn_lem CutShort CutShort s t room line block p q = tt
 
-pub answer_block_unique : (κs : Lfts 3) (a : Dens κs answer_block_kinds.ps) (x y : (res_t answer_block_kinds.r κs).Denot)
-    (s t : AtExit (ended_of 3 answer_block_kinds.ps answer_block_kinds.r) κs)
-    → answer_block_reads.Post κs a x s
-    → answer_block_reads.Post κs a y t
-    → OneTurn x y s.1.0.now t.1.0.now
-answer_block_unique κs a x y s t p q = one_turn_lem x y _ _ _ _ _ p q
+-- whatever it prints with
+module _ (T : RattleType) (laws : Laws T) (print : Print.Ghosts T.Denot) (print_table : Dict) (eprint : Eprint.Ghosts T.Denot) (eprint_table : Dict)
+  where
+    pub answer_block_unique : (κs : Lfts 5) (a : Dens κs (answer_block_kinds.ps T laws)) (x y : (res_t (answer_block_kinds.r T laws) κs).Denot)
+        (s t : AtExit (ended_of 5 (answer_block_kinds.ps T laws) (answer_block_kinds.r T laws)) κs)
+        → answer_block_reads.Post T laws print print_table eprint eprint_table κs a x s
+        → answer_block_reads.Post T laws print print_table eprint eprint_table κs a y t
+        → OneTurn x y s.1.1.0.now t.1.1.0.now
+    answer_block_unique κs a x y s t p q = one_turn_lem x y _ _ _ _ _ p q
 
-pub answer_read_unique : (κs : Lfts 3) (a : Dens κs answer_read_kinds.ps) (x y : (res_t answer_read_kinds.r κs).Denot)
-    (s t : AtExit (ended_of 3 answer_read_kinds.ps answer_read_kinds.r) κs)
-    → answer_read_reads.Post κs a x s
-    → answer_read_reads.Post κs a y t
-    → OneTurn x y s.1.0.now t.1.0.now
-answer_read_unique κs a x y s t p q = one_turn_lem x y _ _ _ _ _ p q
+    pub answer_read_unique : (κs : Lfts 5) (a : Dens κs (answer_read_kinds.ps T laws)) (x y : (res_t (answer_read_kinds.r T laws) κs).Denot)
+        (s t : AtExit (ended_of 5 (answer_read_kinds.ps T laws) (answer_read_kinds.r T laws)) κs)
+        → answer_read_reads.Post T laws print print_table eprint eprint_table κs a x s
+        → answer_read_reads.Post T laws print print_table eprint eprint_table κs a y t
+        → OneTurn x y s.1.1.0.now t.1.1.0.now
+    answer_read_unique κs a x y s t p q = one_turn_lem x y _ _ _ _ _ p q
 
 -- whether the arguments ask is known by their number
 abbrev OneAsked : Asked → Asked → Type 0
@@ -97,9 +106,11 @@ one_asked (Line m) Nothing count room p q = omega arith
 one_asked Nothing (Line n) count room p q = omega arith
 one_asked Nothing Nothing count room p q = tt
 
-pub join_arguments_unique : (κs : Lfts 1) (a : Dens κs join_arguments_kinds.ps) (x y : (res_t join_arguments_kinds.r κs).Denot)
-    (s t : AtExit (ended_of 1 join_arguments_kinds.ps join_arguments_kinds.r) κs)
-    → join_arguments_reads.Post κs a x s
-    → join_arguments_reads.Post κs a y t
-    → OneAsked x y
-join_arguments_unique κs a x y s t p q = one_asked x y _ _ p q
+-- wherever its arguments come from
+module _ (T : RattleType) (laws : Laws T) (env : Env.Ghosts T.Denot) (env_table : Dict) where
+  pub join_arguments_unique : (κs : Lfts 3) (a : Dens κs (join_arguments_kinds.ps T laws)) (x y : (res_t (join_arguments_kinds.r T laws) κs).Denot)
+      (s t : AtExit (ended_of 3 (join_arguments_kinds.ps T laws) (join_arguments_kinds.r T laws)) κs)
+      → join_arguments_reads.Post T laws env env_table κs a x s
+      → join_arguments_reads.Post T laws env env_table κs a y t
+      → OneAsked x y
+  join_arguments_unique κs a x y s t p q = one_asked x y _ _ p q

@@ -1,4 +1,3 @@
-pub mod Walk
 pub mod Structs
 pub mod Runs
 pub mod Unique
