@@ -1,0 +1,17 @@
+-- `questions::counted::with_two` meets its contract: the list in the code has the words of `with_two`, in their order. Assumes nothing.
+use borrow.Author.Rules.{rules}
+use lib.ListN.{length}
+use Rattle.words.specs.Search.{index_of}
+use Rattle.words.specs.Numbers.{end_of, part_of, rest_of}
+use Rattle.measure.specs.Epoch.{shoushi}
+use Rattle.words.specs.Place.{place_within, place_of}
+use Rattle.words.proofs.Chosen.{placed}
+use Rattle.questions.specs.DeskReply.{malformed}
+use Rattle.questions.specs.Question.{with_two}
+use Rattle.questions.proofs.Answered.{answers_as}
+use Rattle.questions.proofs.counted.with_two.Goals as goal
+
+pub returns : goal.returns
+unfolding index_of end_of part_of rest_of place_within place_of with_two
+returns c =
+    answers_as (placed malformed c.args.word.now (with_two shoushi (length c.args.row.now) c.args.n c.args.i) c.place_of.result c.place_of.ensures) c.two_at.ensures
