@@ -1,5 +1,4 @@
 -- `questions::by_numbers` meets its contract. Assumes nothing.
-use borrow.Author.Rules.{rules}
 use mathlib.Core.Path.{◌≡◌}
 use lib.ListN.{length}
 use Rattle.words.specs.Numbers.{part_of, rest_of, numbers_of}

@@ -1,5 +1,4 @@
 -- `questions::counted::one_at` meets its contract. Assumes nothing.
-use borrow.Author.Rules.{rules}
 use lib.ListN.{length}
 use Rattle.measure.specs.Epoch.{shoushi}
 use Rattle.words.specs.Choice.{choice_at}

@@ -1,5 +1,4 @@
 -- `questions::counted::three_at` meets its contract. Assumes nothing.
-use borrow.Author.Rules.{rules}
 use Rattle.measure.specs.Epoch.{shoushi}
 use Rattle.words.specs.Choice.{choice_at}
 use Rattle.words.proofs.Chosen.{no_place}

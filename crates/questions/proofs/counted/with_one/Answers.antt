@@ -1,5 +1,4 @@
 -- `questions::counted::with_one` meets its contract: the list in the code has the words of `with_one`, in their order. Assumes nothing.
-use borrow.Author.Rules.{rules}
 use lib.ListN.{length}
 use Rattle.words.specs.Search.{index_of}
 use Rattle.words.specs.Numbers.{end_of, part_of, rest_of}

@@ -1,5 +1,4 @@
 -- `questions::halves::lunar_by` meets its contract. Assumes nothing.
-use borrow.Author.Rules.{rules}
 use Rattle.words.specs.Choice.{choice_at}
 use Rattle.words.proofs.Chosen.{no_place}
 use Rattle.questions.specs.DeskReply.{malformed}

@@ -1,12 +1,11 @@
 -- `questions::halves::on_half` meets its contract. Assumes nothing.
-use borrow.Author.Rules.{rules}
 use Prim.Native.Nat.{ℕ}
 use mathlib.Core.Path.{◌≡◌, refl}
 use mathlib.Core.List.{List}
 use Rattle.words.specs.Numbers.{part_of, rest_of, numbers_of}
 use Rattle.words.specs.declared.Numbers.{Numbers}
 use Rattle.words.specs.declared.Numbers.TheVariants.{Nothing, One, Two, Three, Other}
-use Rattle.questions.specs.Question.{◌among◌, with_half, on_half}
+use Rattle.questions.specs.Question.{on_half}
 use Rattle.questions.specs.DeskReply.{malformed}
 use Rattle.questions.proofs.Answered.{answers_as, no_question}
 use Rattle.questions.proofs.halves.on_half.Goals as goal

@@ -1,5 +1,4 @@
 -- `questions::halves::solar_in` meets its contract: the list in the code has the words of `solar_in`, in their order. Assumes nothing.
-use borrow.Author.Rules.{rules}
 use Rattle.words.specs.Search.{index_of}
 use Rattle.words.specs.Numbers.{end_of, part_of, rest_of}
 use Rattle.words.specs.Place.{place_within, place_of}

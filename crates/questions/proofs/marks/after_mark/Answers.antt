@@ -4,7 +4,6 @@ use mathlib.Core.Path.{◌≡◌, ◌∙◌, sym, ap}
 use Rattle.words.specs.Text.{◌is◌}
 use Rattle.words.specs.Numbers.{part_of, rest_of}
 use Rattle.questions.proofs.MarkLaws.{after_leap, after_number}
-use borrow.Author.Rules.{rules}
 use Rattle.questions.proofs.marks.after_mark.Goals as goal
 
 pub returns-then-is_leap : goal.returns-then-is_leap

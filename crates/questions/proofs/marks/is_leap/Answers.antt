@@ -1,6 +1,5 @@
 -- `marks::is_leap` meets its contract. Assumes nothing.
 use mathlib.Core.Path.{sym}
-use borrow.Author.Rules.{rules}
 use Rattle.words.proofs.Same.{same_answer}
 use Rattle.questions.proofs.marks.is_leap.Goals as goal
 

@@ -1,7 +1,6 @@
 -- `marks::mark_in` meets its contract. Assumes nothing.
 use mathlib.Core.Bool.{true, false}
 use mathlib.Core.Path.{◌≡◌, ◌∙◌, sym}
-use borrow.Author.Rules.{rules}
 use Rattle.words.specs.Number.{number_of}
 use Rattle.words.specs.declared.decimals.Number.TheVariants.{Value, Bad}
 use Rattle.words.specs.Text.{◌is◌}

@@ -1,5 +1,4 @@
 -- `questions::marks::on_marks` meets its contract. Assumes nothing.
-use borrow.Author.Rules.{rules}
 use lib.ListN.{length}
 use Rattle.questions.proofs.Answered.{answers_as, sheet_answers}
 use Rattle.questions.proofs.Listed.{sheet_long}

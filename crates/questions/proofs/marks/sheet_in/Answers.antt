@@ -2,9 +2,8 @@
 -- these and then those of what is left. The measure is what is left. Assumes nothing.
 use mathlib.Core.Path.{◌∙◌, sym, ap}
 use native.Mathlib.Omega.{arith}
-use borrow.Author.Rules.{rules}
 use lib.ListN.{length}
-use Rattle.questions.proofs.MarkLaws.{ReadTo, after_shorter, nothing_read, read_more, all_read, not_read}
+use Rattle.questions.proofs.MarkLaws.{after_shorter, nothing_read, read_more, all_read, not_read}
 use Rattle.questions.proofs.marks.sheet_in.Goals as goal
 
 pub loop-left-init : goal.loop-left-init

@@ -1,10 +1,7 @@
 -- `marks::sheet_in` meets its contract. The loop's invariant: the sheet has the marks of what was read, and all marks of the text are
 -- these and then those of what is left. The measure is what is left. Assumes nothing.
-use mathlib.Core.Path.{◌∙◌, sym, ap}
-use native.Mathlib.Omega.{arith}
-use borrow.Author.Rules.{rules}
 use lib.ListN.{length}
-use Rattle.questions.proofs.MarkLaws.{ReadTo, after_shorter, nothing_read, read_more, all_read, not_read}
+use Rattle.questions.proofs.MarkLaws.{ReadTo}
 use Rattle.questions.proofs.marks.sheet_in.Given as goal
 
 abbrev pub invariant-loop-left : goal.invariant-loop-left

@@ -1,7 +1,6 @@
 -- `marks::shown_by` meets its contract: the list in the code has the words of `showing`, in their order.
 -- Assumes nothing.
 use mathlib.Core.Path.{◌∙◌}
-use borrow.Author.Rules.{rules}
 use Rattle.words.specs.Search.{index_of}
 use Rattle.words.specs.Numbers.{end_of, part_of, rest_of}
 use Rattle.words.specs.Place.{place_within, place_of}
