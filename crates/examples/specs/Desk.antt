@@ -2,7 +2,7 @@
 -- Assumes nothing.
 use Rattle.std.specs.Prelude.{◌≡◌, refl, [], ◌∷◌, ℕ, pos, negsuc}
 use Prim.Native.String.{String}
-use Rattle.bytes.specs.Bytes.{index_of, index_after}
+use Rattle.words.specs.Search.{index_of}
 use Rattle.words.specs.Number.{digits, value, is_number, number_of}
 use Rattle.words.specs.Numbers.{end_of, part_of, rest_of, numbers_of}
 use Rattle.rows.specs.Row.{listed}
@@ -63,12 +63,12 @@ answered :
     × ("years 1 019" gets years_of 1 19)
     × ("terms 5" gets terms_of 5)
     × ("constants" gets constants)
-unfolding digits value is_number number_of index_of index_after end_of part_of rest_of numbers_of hour_reply double_hour ke extra_reply extra_day solstice_reply solstice same chosen alone with_one with_two word_of after_word reply_to
+unfolding digits value is_number number_of index_of end_of part_of rest_of numbers_of hour_reply double_hour ke extra_reply extra_day solstice_reply solstice same chosen alone with_one with_two word_of after_word reply_to
 answered = (refl, refl, refl, refl, refl, refl, refl, refl, refl)
 
 -- a month, what is ahead and what is behind
 day_answered : "day 340" gets month (answer (record { kind = leap 8; year = 0; place = 10; day = 12; first = 329; length = 30 }))
-unfolding digits value is_number number_of index_of index_after end_of part_of rest_of numbers_of same chosen with_one word_of after_word reply_to
+unfolding digits value is_number number_of index_of end_of part_of rest_of numbers_of same chosen with_one word_of after_word reply_to
 day_answered = simp months.days.2
 
 signed_answered :
@@ -76,12 +76,12 @@ signed_answered :
     × ("solar-at slow 9371202500" gets signed (answer (negsuc 240_132_543)))
     × ("lunar-at quick 3" gets signed (answer (pos 3)))
     × ("lunar-at tardy 688524590" gets signed (answer (negsuc 542_337_599)))
-unfolding digits value is_number number_of index_of index_after end_of part_of rest_of numbers_of law taken fast_at slow_at solar_at_reply lunar_magnitude lunar_at_reply integer same chosen solar_in lunar_in with_half word_of after_word reply_to
+unfolding digits value is_number number_of index_of end_of part_of rest_of numbers_of law taken fast_at slow_at solar_at_reply lunar_magnitude lunar_at_reply integer same chosen solar_in lunar_in with_half word_of after_word reply_to
 signed_answered = (refl, refl, refl, refl)
 
 -- by the calendar, where the question is one
 outside : ("term 1000 0" gets moment (refused 1)) × ("motion-at quick 168" gets number (refused 2))
-unfolding digits value is_number number_of index_of index_after end_of part_of rest_of numbers_of motion_at_reply term_reply same chosen with_two motion_in with_half word_of after_word reply_to
+unfolding digits value is_number number_of index_of end_of part_of rest_of numbers_of motion_at_reply term_reply same chosen with_two motion_in with_half word_of after_word reply_to
 outside = (refl, refl)
 
 -- no question: a number too few, one too many, two blanks, no number, a half of the sun's asked of the moon, no word
@@ -92,7 +92,7 @@ no_question :
     × ("year -1" gets malformed)
     × ("lunar-at slow 0" gets malformed)
     × ("" gets malformed)
-unfolding digits value is_number number_of index_of index_after end_of part_of rest_of numbers_of same chosen alone with_one lunar_in with_half word_of after_word reply_to
+unfolding digits value is_number number_of index_of end_of part_of rest_of numbers_of same chosen alone with_one lunar_in with_half word_of after_word reply_to
 no_question = (refl, refl, refl, refl, refl, refl)
 
 -- a refusal, and what there is none of

@@ -17,7 +17,7 @@ use Rattle.month_law.specs.Steps.{seek}
 use Rattle.month_law.specs.Count.{count}
 use Rattle.month_law.specs.Calendar.{month_of, head, held, leap_at}
 use Rattle.edition.specs.Edition.{middle_day, calendar, first_day}
-use Rattle.bytes.specs.Bytes.{index_of, index_after}
+use Rattle.words.specs.Search.{index_of}
 use Rattle.words.specs.Number.{digits, value, is_number, number_of}
 use Rattle.words.specs.Ascii.{bytes_of}
 use Rattle.words.specs.Text.{same}
@@ -63,14 +63,14 @@ text gives marks = marks_in (bytes_of text) ≡ marks
 read : (" name 0 35 length 0 29 leap 10" gives answer (marked 0 (Name 35) ∷ marked 0 (Length 29) ∷ marked 10 Leap ∷ []))
     × (" stem 4 0 branch 12 11" gives answer (marked 4 (Stem 0) ∷ marked 12 (Branch 11) ∷ []))
     × ("" gives answer [])
-unfolding index_of index_after digits value is_number number_of end_of part_of rest_of same chosen showing mark_of after_mark marks_within marks_in
+unfolding index_of digits value is_number number_of end_of part_of rest_of same chosen showing mark_of after_mark marks_within marks_in
 read = (refl, refl, refl)
 
 -- a number too few, one too many, no mark's word, a capital letter, two blanks, a blank at the end
 unread : (" name 0" gives refused 5) × (" leap 10 3" gives refused 5) × (" day 0 35" gives refused 5) × (" Leap 10" gives refused 5)
     × ("  leap 10" gives refused 5)
     × (" leap 10 " gives refused 5)
-unfolding index_of index_after digits value is_number number_of end_of part_of rest_of same chosen showing mark_of after_mark marks_within marks_in
+unfolding index_of digits value is_number number_of end_of part_of rest_of same chosen showing mark_of after_mark marks_within marks_in
 unread = (refl, refl, refl, refl, refl, refl)
 
 infix 40 ◌says◌
@@ -80,7 +80,7 @@ line says reply = answer_text shoushi (bytes_of line) ≡ bytes_of reply
 -- a mark that no month has, and a line that is no marks, which is told first
 refusals : ("sheet name 0 60" says "refused 2\n") × ("sheet leap 10 length 0 31" says "refused 2\n") × ("sheet leap 13 leap" says "refused 5\n")
     × ("sheets" says "refused 5\n")
-unfolding index_of index_after digits value is_number number_of end_of part_of rest_of same chosen showing mark_of after_mark marks_within marks_in numbers_of word_of after_word bad_mark any_bad sheet_reply refusal_text items_text items_of item_at filled piece numbers_taken decimal decimal_in answer_text reply_to reply_text alone
+unfolding index_of digits value is_number number_of end_of part_of rest_of same chosen showing mark_of after_mark marks_within marks_in numbers_of word_of after_word bad_mark any_bad sheet_reply refusal_text items_text items_of item_at filled piece numbers_taken decimal decimal_in answer_text reply_to reply_text alone
 refusals = (refl, refl, refl, refl)
 
 years : (list_text (0 ∷ 93 ∷ 310 ∷ []) ≡ bytes_of "0 93 310\n") × (list_text (999 ∷ []) ≡ bytes_of "999\n") × (list_text [] ≡ bytes_of "none\n")
