@@ -12,6 +12,7 @@ use rows::OUTSIDE;
 use signed::{SignedAnswer, ahead, behind};
 
 // The lunar inequality at a time in a half. Half the anomalistic month or more is refused with 2.
+#[tactic(auto, using(signed::proofs::Integers::held_as, crate::proofs::Sizes::magnitude_le), unfolding(crate::specs::Lunar::lunar_at_reply))]
 pub fn lunar_at(half: LunarHalf, time: u64) -> SignedAnswer
     ensures { signed_said result ≡ as_integer (lunar_at_reply (lunar_half_said half) time) }
 {

@@ -17,6 +17,7 @@ pub enum SolarHalf {
 }
 
 // The solar inequality at a time in a half. The half year or more is refused with 2.
+#[tactic(auto, using(signed::proofs::Integers::held_as, crate::proofs::Sizes::fast_le, crate::proofs::Sizes::slow_le), unfolding(crate::specs::Solar::solar_at_reply))]
 pub fn solar_at(half: SolarHalf, time: u64) -> SignedAnswer
     ensures { signed_said result ≡ as_integer (solar_at_reply (solar_half_said half) time) }
 {

@@ -1,6 +1,5 @@
 -- `edition::first_day` meets its contract. Assumes nothing.
 use mathlib.Core.Path.{◌∙◌, ap}
-use borrow.Author.Rules.{rules}
 use Rattle.measure.specs.Days.{day_of}
 use Rattle.edition.specs.Edition.{first_day}
 use Rattle.edition.proofs.first_day.Goals as goal

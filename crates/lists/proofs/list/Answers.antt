@@ -1,5 +1,4 @@
 -- `lists::list` meets its contract: a year's list is the run of that year. Assumes nothing.
-use borrow.Author.Rules.{rules}
 use Rattle.measure.specs.Epoch.{shoushi}
 use Rattle.edition.specs.Edition.{calendar}
 use Rattle.lists.proofs.Asked.{reply_of_one, run_of_one}

@@ -1,5 +1,4 @@
 -- `lists::run_asked` meets its contract. Assumes nothing.
-use borrow.Author.Rules.{rules}
 use borrow.Author.Tests.{eq-eqb, ne_eqb, lt-ltb, le-ltb}
 use Rattle.lists.specs.Lists.{run_asked}
 use Rattle.lists.proofs.run_asked.Goals as goal

@@ -1,19 +1,16 @@
 -- `lists::write_years` meets its contract: after k turns the lists of k years are written. Assumes nothing.
-use mathlib.Core.Path.{◌≡◌, ◌∙◌, ap}
-use Prim.Native.Nat.{ℕ, ◌+◌, ◌-◌, ◌*◌, ◌≤◌}
+use Prim.Native.Nat.{ℕ, ◌+◌, ◌-◌, ◌*◌}
 use native.Mathlib.Omega.{arith}
 use borrow.Rule.Slice.PartMut.{same_len_mid}
 use lib.ListN.{length, length-take, length-drop}
 use Rattle.measure.specs.Epoch.{shoushi}
-use Rattle.rows.specs.Row.{over}
 use Rattle.month_law.specs.Calendar.{Calendar}
 use Rattle.edition.specs.Edition.{calendar}
 use Rattle.edition.proofs.Edition.{shoushi_lawful}
 use Rattle.month_law.proofs.Lists.{months_in_most}
 use Rattle.lists.specs.Records.{record_width}
-use Rattle.lists.specs.Lists.{run_of, months_in_run}
 use Rattle.months.proofs.Spans.{months_between, head_later}
-use Rattle.lists.proofs.RunList.{Running, run_begins, run_room, run_goes_on}
+use Rattle.lists.proofs.RunList.{run_begins, run_room, run_goes_on}
 use Rattle.lists.proofs.write_years.Goals as goal
 
 abbrev cal : Calendar

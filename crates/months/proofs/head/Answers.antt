@@ -1,5 +1,4 @@
 -- `months::head` meets its contract. Assumes nothing.
-use borrow.Author.Rules.{rules}
 use borrow.Author.Tests.{lt-ltb, le-ltb}
 use Rattle.months.specs.Head.{head_reply}
 use Rattle.months.proofs.head.Goals as goal

@@ -1,6 +1,5 @@
 -- `months::head_of` meets its contract. Assumes nothing.
 use mathlib.Core.Path.{ap}
-use borrow.Author.Rules.{rules}
 use Rattle.months.specs.declared.Span.{Span}
 use Rattle.months.proofs.head_of.Goals as goal
 

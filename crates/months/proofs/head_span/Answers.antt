@@ -2,7 +2,6 @@
 use mathlib.Core.Path.{◌∙◌}
 use Prim.Native.Nat.{◌*◌}
 use native.Mathlib.Omega.{arith}
-use borrow.Author.Rules.{rules}
 use Rattle.measure.specs.Epoch.{shoushi}
 use Rattle.month_law.proofs.Months.{head_is}
 use Rattle.edition.specs.Edition.{calendar}

@@ -1,5 +1,4 @@
 -- `months::kind_by` meets its contract. Assumes nothing.
-use borrow.Author.Rules.{rules}
 use borrow.Author.Tests.{lt-ltb, le-ltb}
 use Rattle.month_law.proofs.Numbers.{rank_number}
 use Rattle.months.proofs.kind_by.Goals as goal

@@ -1,7 +1,6 @@
 -- `months::last_term` meets its contract. Assumes nothing.
 use Prim.Native.Nat.{suc, ◌*◌, ◌-◌, ◌/◌}
 use native.Mathlib.Omega.{arith}
-use borrow.Author.Rules.{rules}
 use Rattle.measure.specs.Units.{day, term_step}
 use Rattle.measure.specs.Epoch.{shoushi}
 use Rattle.edition.proofs.Edition.{middle_day_lem}

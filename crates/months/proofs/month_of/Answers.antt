@@ -1,6 +1,5 @@
 -- `months::month_of` meets its contract. Assumes nothing.
 use mathlib.Core.Path.{◌∙◌, sym, ap}
-use borrow.Author.Rules.{rules}
 use Rattle.rows.specs.Reply.{answer}
 use Rattle.measure.specs.Epoch.{shoushi}
 use Rattle.months.proofs.DayReply.{day_answered, day_early, day_late}

@@ -1,6 +1,5 @@
 -- `moons::anomaly` meets its contract. Assumes nothing.
 use mathlib.Core.Path.{refl}
-use borrow.Author.Rules.{rules}
 use Rattle.moons.specs.Lunation.{anomaly}
 use Rattle.moons.proofs.anomaly.Goals as goal
 

@@ -1,10 +1,9 @@
 -- `moons::correction` meets its contract. Assumes nothing.
 use mathlib.Core.Path.{◌∙◌, sym, ap}
-use borrow.Author.Rules.{rules}
 use Rattle.rows.specs.Reply.{answer}
 use Rattle.signed.proofs.Integers.{held_as}
 use Rattle.moons.specs.TrueMoon.{correction_reply}
-use Rattle.moons.proofs.Admitted.{one_refusal, counted}
+use Rattle.moons.proofs.Admitted.{one_refusal}
 use Rattle.moons.proofs.correction.Goals as goal
 
 pub returns-then-outside : goal.returns-then-outside

@@ -1,6 +1,5 @@
 -- `moons::correction_at` meets its contract: each step fits its bits and is read back off them. Assumes nothing.
 use native.Mathlib.Omega.{arith}
-use borrow.Author.Rules.{rules}
 use Rattle.inequalities.proofs.MotionAt.{motion_least}
 use Rattle.moons.proofs.Bits.{fits_as, difference_fits, product_fits, motion_fits, correction_fits, difference_read, product_read, quotient_read, correction_read}
 use Rattle.moons.proofs.correction_at.Goals as goal

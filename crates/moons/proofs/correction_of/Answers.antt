@@ -1,6 +1,5 @@
 -- `moons::correction_of` meets its contract. Assumes nothing.
 use mathlib.Core.Path.{◌∙◌}
-use borrow.Author.Rules.{rules}
 use Rattle.measure.specs.Epoch.{shoushi}
 use Rattle.signed.proofs.Integers.{held_as}
 use Rattle.moons.specs.TrueMoon.{correction_of}

@@ -1,6 +1,5 @@
 -- `moons::mean_time` meets its contract. Assumes nothing.
 use mathlib.Core.Path.{refl}
-use borrow.Author.Rules.{rules}
 use Rattle.moons.specs.Lunation.{mean}
 use Rattle.moons.proofs.mean_time.Goals as goal
 

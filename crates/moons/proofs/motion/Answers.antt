@@ -1,11 +1,10 @@
 -- `moons::motion` meets its contract. Assumes nothing.
 use mathlib.Core.Path.{◌∙◌, sym, ap}
-use borrow.Author.Rules.{rules}
 use Rattle.rows.specs.Reply.{answer}
 use Rattle.measure.specs.Epoch.{shoushi}
 use Rattle.inequalities.specs.Motion.{motion}
 use Rattle.moons.specs.TrueMoon.{motion_reply}
-use Rattle.moons.proofs.Admitted.{one_refusal, counted}
+use Rattle.moons.proofs.Admitted.{one_refusal}
 use Rattle.moons.proofs.Times.{anomaly_lt}
 use Rattle.moons.proofs.motion.Goals as goal
 

@@ -1,14 +1,13 @@
 -- `moons::solar` meets its contract. Assumes nothing.
 use mathlib.Core.Path.{◌∙◌, sym, ap}
 use Prim.Native.Nat.{ℕ}
-use borrow.Author.Rules.{rules}
 use Rattle.rows.specs.Reply.{answer}
 use Rattle.measure.specs.Epoch.{shoushi}
 use Rattle.signed.specs.Signed.{integer}
 use Rattle.signed.proofs.Integers.{held_as}
 use Rattle.inequalities.specs.Solar.{solar}
 use Rattle.moons.specs.TrueMoon.{solar_reply}
-use Rattle.moons.proofs.Admitted.{one_refusal, counted}
+use Rattle.moons.proofs.Admitted.{one_refusal}
 use Rattle.moons.proofs.Times.{solar_time_lt}
 use Rattle.moons.proofs.solar.Goals as goal
 

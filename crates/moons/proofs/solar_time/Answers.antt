@@ -1,6 +1,5 @@
 -- `moons::solar_time` meets its contract. Assumes nothing.
 use mathlib.Core.Path.{refl}
-use borrow.Author.Rules.{rules}
 use Rattle.moons.specs.Lunation.{solar_time}
 use Rattle.moons.proofs.solar_time.Goals as goal
 

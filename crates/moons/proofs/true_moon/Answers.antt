@@ -1,9 +1,8 @@
 -- `moons::true_moon` meets its contract. Assumes nothing.
 use mathlib.Core.Path.{◌∙◌, sym, ap}
-use borrow.Author.Rules.{rules}
 use Rattle.rows.specs.Reply.{answer}
 use Rattle.moons.specs.TrueMoon.{true_reply}
-use Rattle.moons.proofs.Admitted.{one_refusal, counted}
+use Rattle.moons.proofs.Admitted.{one_refusal}
 use Rattle.moons.proofs.true_moon.Goals as goal
 
 pub returns-then-outside : goal.returns-then-outside

@@ -2,7 +2,6 @@
 use mathlib.Core.Path.{ap}
 use lib.IntN.{nat_abs}
 use mir.Facts.{Fits-nat_abs}
-use borrow.Author.Rules.{rules}
 use Rattle.moons.proofs.Bits.{fits_as, mean_fits, true_fits, sum_read, true_read}
 use Rattle.moons.proofs.true_time.Goals as goal
 

@@ -2,8 +2,6 @@
 use mathlib.Core.List.{[], ◌∷◌}
 use mathlib.Core.Path.{refl}
 use native.Mathlib.Omega.{arith}
-use borrow.Author.Rules.{rules}
-use lib.ListN.{length-set}
 use Rattle.rows.specs.Row.{over}
 use Rattle.rows.proofs.Row.{put}
 use Rattle.lists.proofs.year_rows.put_four.Goals as goal

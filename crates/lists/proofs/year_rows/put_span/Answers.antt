@@ -1,6 +1,5 @@
 -- `lists::put_span` meets its contract: the last middle term before the month's end tells its kind. Assumes nothing.
 use native.Mathlib.Omega.{arith}
-use borrow.Author.Rules.{rules}
 use Rattle.measure.specs.Epoch.{shoushi}
 use Rattle.month_law.specs.Calendar.{Calendar}
 use Rattle.edition.specs.Edition.{calendar}
