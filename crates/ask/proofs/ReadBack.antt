@@ -1,12 +1,13 @@
 -- What is told says the whole reply: no refusal has the number 0, so none can be taken for an answer. And a row with room for the records of
 -- all years is never refused.
 -- Assumes nothing.
+use Rattle.std.specs.Prelude.{if◌then◌else◌}
 use mathlib.Core.Bool.{Bool, true, false}
 use mathlib.Core.List.{List}
 use mathlib.Core.Path.{◌≡◌, refl, ap}
 use Prim.Native.Nat.{ℕ, ◌≤◌}
 use lib.ListN.{length}
-use Rattle.rows.specs.Choice.{if◌then◌else◌, ◌<?◌, ◌=?◌}
+use Rattle.rows.specs.Choice.{◌<?◌, ◌=?◌}
 use Rattle.rows.specs.Reply.{Reply, answer, refused, short_row, refuse_if}
 use Rattle.measure.specs.Epoch.{shoushi}
 use Rattle.questions.specs.Question.{reply_to}

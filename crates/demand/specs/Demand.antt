@@ -1,8 +1,8 @@
 -- Demand 3 as one statement: the lists of the years 0 to a last one, their listing end to end, what is replied about each day, the names
 -- of the days, and the way back.
 -- Assumes nothing.
-use Rattle.std.specs.Prelude.{true, List, [], ◌∷◌, ◌⊎◌, ◌≡◌, ℕ, zero, suc, ◌+◌, ◌-◌, ◌*◌, ◌%◌, ◌≤◌, ◌<◌, length, get_or, take, drop}
-use Rattle.rows.specs.Choice.{if◌then◌else◌, ◌=?◌}
+use Rattle.std.specs.Prelude.{true, List, [], ◌∷◌, ◌⊎◌, ◌≡◌, ℕ, zero, suc, ◌+◌, ◌-◌, ◌*◌, ◌%◌, ◌≤◌, ◌<◌, length, get_or, take, drop, if◌then◌else◌}
+use Rattle.rows.specs.Choice.{◌=?◌}
 use Rattle.rows.specs.Reply.{answer}
 use Rattle.measure.specs.Epoch.{Epoch}
 use Rattle.measure.specs.Days.{sixty_name}

@@ -1,8 +1,8 @@
 -- The desk's input: what is kept of a line until it ends, and what the arguments ask. What is read and written cannot be said, so each
 -- turn is held to what it does with the block that it has.
 -- Assumes nothing.
-use Rattle.std.specs.Prelude.{◌≡◌, List, [], ◌∷◌, ◌++◌, ℕ, ◌+◌, ◌≤◌, ◌<◌, ℤ, pos, negsuc, length, take}
-use Rattle.rows.specs.Choice.{if◌then◌else◌, ◌<?◌, ◌=?◌}
+use Rattle.std.specs.Prelude.{◌≡◌, List, [], ◌∷◌, ◌++◌, ℕ, ◌+◌, ◌≤◌, ◌<◌, ℤ, pos, negsuc, length, take, if◌then◌else◌}
+use Rattle.rows.specs.Choice.{◌<?◌, ◌=?◌}
 use Rattle.measure.specs.Epoch.{shoushi}
 use Rattle.frames.specs.LineEnds.{line_end}
 use Rattle.ask.specs.AnswerText.{answer_text}

@@ -1,12 +1,13 @@
 -- Laws of the line that asks for a day, by its digits: the line of a day asks for that day, and what is refused.
 -- Assumes nothing.
+use Rattle.std.specs.Prelude.{if◌then◌else◌}
 use mathlib.Core.Bool.{Bool, true, false}
 use mathlib.Core.Path.{◌≡◌}
 use mathlib.Core.List.{List}
 use Prim.Native.Nat.{ℕ, ◌^◌, ◌<◌}
 use borrow.Author.Tests.{eq-eqb, ne_eqb}
 use lib.ListN.{length}
-use Rattle.rows.specs.Choice.{if◌then◌else◌, ◌=?◌}
+use Rattle.rows.specs.Choice.{◌=?◌}
 use Rattle.rows.specs.Reply.{answer, refused, bad_line}
 use Rattle.frames.specs.Digits.{digits_of, number_spelled}
 use Rattle.frames.specs.DayLine.{day_asked}

@@ -1,5 +1,6 @@
 -- Laws of lines: the first line of an input and what is handed on.
 -- Assumes nothing.
+use Rattle.std.specs.Prelude.{if◌then◌else◌}
 use mathlib.Core.Bool.{Bool, true, false}
 use mathlib.Core.Path.{◌≡◌}
 use mathlib.Core.List.{List, [], ◌∷◌}
@@ -8,7 +9,7 @@ use native.Mathlib.Numerals.{add-one}
 use native.Mathlib.Omega.{arith}
 use lib.ListN.{length, get_or, drop, length-drop}
 use lib.Seq.{drop-cons}
-use Rattle.rows.specs.Choice.{if◌then◌else◌, ◌=?◌}
+use Rattle.rows.specs.Choice.{◌=?◌}
 use Rattle.frames.specs.LineEnds.{line_end, line_length, rest_after}
 
 -- one byte more of a line

@@ -1,6 +1,7 @@
 -- A month's line, by the width of its day: what is written is read back to the same fields, and a line that reads to fields is the line
 -- that is written of them.
 -- Assumes nothing.
+use Rattle.std.specs.Prelude.{if◌then◌else◌}
 use mathlib.Core.Bool.{Bool, true, false}
 use mathlib.Core.Path.{◌≡◌, ◌∙◌, refl, sym, ap}
 use mathlib.Core.List.{List, ◌++◌}
@@ -10,7 +11,7 @@ use native.Mathlib.Omega.{arith}
 use borrow.Author.Tests.{eq-eqb, eqb-true}
 use lib.Dec.{lit<}
 use lib.ListN.{length, length-append}
-use Rattle.rows.specs.Choice.{if◌then◌else◌, ◌=?◌}
+use Rattle.rows.specs.Choice.{◌=?◌}
 use Rattle.rows.specs.Reply.{Reply, answer, refused, bad_line}
 use Rattle.months.specs.Month.{MonthOfDay}
 use Rattle.frames.specs.Digits.{digits_of, spelled, number_spelled}

@@ -1,7 +1,7 @@
 -- "The line program": the day that a line asks for.
 -- Assumes nothing.
-use Rattle.std.specs.Prelude.{List, ℕ, length}
-use Rattle.rows.specs.Choice.{if◌then◌else◌, ◌=?◌}
+use Rattle.std.specs.Prelude.{List, ℕ, length, if◌then◌else◌}
+use Rattle.rows.specs.Choice.{◌=?◌}
 use Rattle.rows.specs.Reply.{Reply, refused, bad_line}
 use Rattle.frames.specs.Digits.{number_spelled}
 

@@ -1,7 +1,7 @@
 -- Hexadecimal digits, both ways: as they are written, by their number, and as they are read.
 -- Assumes nothing.
-use Rattle.std.specs.Prelude.{◌&&◌, List, [], ◌∷◌, ◌++◌, ℕ, zero, suc, ◌+◌, ◌-◌, ◌*◌, ◌/◌, ◌%◌}
-use Rattle.rows.specs.Choice.{if◌then◌else◌, ◌≤?◌, ◌<?◌}
+use Rattle.std.specs.Prelude.{◌&&◌, List, [], ◌∷◌, ◌++◌, ℕ, zero, suc, ◌+◌, ◌-◌, ◌*◌, ◌/◌, ◌%◌, if◌then◌else◌}
+use Rattle.rows.specs.Choice.{◌≤?◌, ◌<?◌}
 use Rattle.rows.specs.Reply.{Reply, answer, refused, bad_line}
 use Rattle.frames.specs.declared.Digit.{Digit as DigitCase}
 use Rattle.frames.specs.declared.Digit.TheVariants.{Worth, Nothing}

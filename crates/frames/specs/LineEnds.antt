@@ -1,7 +1,7 @@
 -- "The line program": the lines of an input.
 -- Assumes nothing.
-use Rattle.std.specs.Prelude.{List, [], ◌∷◌, ℕ, suc, ◌+◌, drop}
-use Rattle.rows.specs.Choice.{if◌then◌else◌, ◌=?◌}
+use Rattle.std.specs.Prelude.{List, [], ◌∷◌, ℕ, suc, ◌+◌, drop, if◌then◌else◌}
+use Rattle.rows.specs.Choice.{◌=?◌}
 
 -- a line ends at this byte, or at the end of the input
 abbrev pub line_end : ℕ

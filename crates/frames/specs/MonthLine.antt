@@ -1,7 +1,7 @@
 -- "The line program": the line of a month, by the digits of its day, as it is written and as it is read; and the line of a reply.
 -- Assumes nothing.
-use Rattle.std.specs.Prelude.{List, [], ◌∷◌, ◌++◌, ℕ, ◌+◌, ◌/◌, ◌%◌, ◌^◌, ◌<◌, length}
-use Rattle.rows.specs.Choice.{if◌then◌else◌, ◌=?◌}
+use Rattle.std.specs.Prelude.{List, [], ◌∷◌, ◌++◌, ℕ, ◌+◌, ◌/◌, ◌%◌, ◌^◌, ◌<◌, length, if◌then◌else◌}
+use Rattle.rows.specs.Choice.{◌=?◌}
 use Rattle.rows.specs.Reply.{Reply, answer, refused, bad_line}
 use Rattle.months.specs.Kind.{number_in, mark_in}
 use Rattle.months.specs.Month.{MonthOfDay}

@@ -2,6 +2,7 @@
 -- later, turned to their opposite and closed to a circle. A glued function has the slacks of both parts and the gap at the joint for
 -- its slack, so that nobody counts the joints that a step passes.
 -- Assumes nothing.
+use Rattle.std.specs.Prelude.{if◌then◌else◌}
 use mathlib.Core.Bool.{Bool, true, false}
 use mathlib.Core.Logic.{◌⊎◌, inl, inr}
 use mathlib.Core.Path.{◌≡◌, ap, subst}
@@ -9,7 +10,7 @@ use Prim.Native.Nat.{ℕ, ◌+◌, ◌*◌, ◌-◌, ◌%◌, ◌≤◌, ◌<◌
 use native.Mathlib.Nat.{mul-le-mul_left, mul-le-mul_right, mod-eq_of_lt, mod-eq-sub-mod}
 use native.Mathlib.Omega.{arith}
 use borrow.Author.Tests.{leb-true, leb-false, ltb-true, ltb-false}
-use Rattle.rows.specs.Choice.{if◌then◌else◌, ◌≤?◌, ◌<?◌}
+use Rattle.rows.specs.Choice.{◌≤?◌, ◌<?◌}
 use Rattle.measure.specs.Units.{day}
 use Rattle.rows.proofs.Choice.{lt_or_ge, passes_or_fails}
 use Rattle.signed.specs.Signed.{Signed, ahead_by, behind_by}

@@ -1,7 +1,7 @@
 -- Limits of the "Lunar inequality" (000:876-884): the halves of the anomalistic month, and how a time in a half is counted.
 -- Assumes nothing.
-use Rattle.std.specs.Prelude.{◌≡◌, refl, ℕ, ◌*◌, ◌-◌, ◌/◌, min}
-use Rattle.rows.specs.Choice.{if◌then◌else◌, ◌≤?◌}
+use Rattle.std.specs.Prelude.{◌≡◌, refl, ℕ, ◌*◌, ◌-◌, ◌/◌, min, if◌then◌else◌}
+use Rattle.rows.specs.Choice.{◌≤?◌}
 use Rattle.measure.specs.Units.{day, anomalistic_half}
 use Rattle.inequalities.specs.declared.limits.LunarHalf.{LunarHalf as LunarHalfAsked}
 use Rattle.inequalities.specs.declared.limits.LunarHalf.TheVariants.{Quick, Tardy}

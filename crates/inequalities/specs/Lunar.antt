@@ -1,7 +1,7 @@
 -- "Lunar inequality" (000:896-947), in units of 10⁻⁸ degree.
 -- Assumes nothing.
-use Rattle.std.specs.Prelude.{ℕ, ◌*◌, ◌-◌}
-use Rattle.rows.specs.Choice.{if◌then◌else◌, ◌≤?◌, ◌<?◌}
+use Rattle.std.specs.Prelude.{ℕ, ◌*◌, ◌-◌, if◌then◌else◌}
+use Rattle.rows.specs.Choice.{◌≤?◌, ◌<?◌}
 use Rattle.rows.specs.Reply.{Reply, answer, outside, refuse_if}
 use Rattle.measure.specs.Units.{day, anomalistic_half}
 use Rattle.signed.specs.Signed.{Signed, ahead_by, behind_by}

@@ -1,7 +1,7 @@
 -- "Motion in a limit": by how much the moon moves in each whole limit, in units of 10⁻⁸ degree.
 -- Assumes nothing.
-use Rattle.std.specs.Prelude.{ℕ, ◌+◌, ◌-◌}
-use Rattle.rows.specs.Choice.{if◌then◌else◌, ◌≤?◌, ◌<?◌}
+use Rattle.std.specs.Prelude.{ℕ, ◌+◌, ◌-◌, if◌then◌else◌}
+use Rattle.rows.specs.Choice.{◌≤?◌, ◌<?◌}
 use Rattle.rows.specs.Reply.{Reply, answer, outside, refuse_if}
 use Rattle.measure.specs.Units.{anomalistic_half}
 use Rattle.inequalities.specs.Law.{law_moon, exact}

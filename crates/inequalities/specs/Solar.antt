@@ -1,7 +1,7 @@
 -- "Solar inequality" (000:486-519), in units of 10⁻⁸ degree.
 -- Assumes nothing.
-use Rattle.std.specs.Prelude.{◌≡◌, refl, ℕ, ◌+◌, ◌-◌}
-use Rattle.rows.specs.Choice.{if◌then◌else◌, ◌≤?◌, ◌<?◌}
+use Rattle.std.specs.Prelude.{◌≡◌, refl, ℕ, ◌+◌, ◌-◌, if◌then◌else◌}
+use Rattle.rows.specs.Choice.{◌≤?◌, ◌<?◌}
 use Rattle.rows.specs.Reply.{Reply, answer, outside, refuse_if}
 use Rattle.measure.specs.Units.{half_year}
 use Rattle.signed.specs.Signed.{Signed, ahead_by, behind_by}

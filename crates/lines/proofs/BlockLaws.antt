@@ -1,6 +1,7 @@
 -- Laws of an input that comes in blocks: whole lines can be answered before what follows them is known, and of an unfinished line
 -- six bytes are enough.
 -- Assumes nothing.
+use Rattle.std.specs.Prelude.{if◌then◌else◌}
 use mathlib.Core.Bool.{Bool, true, false}
 use mathlib.Core.Logic.{⊎_elim}
 use mathlib.Core.Path.{◌≡◌, ◌∙◌, refl, sym, ap}
@@ -9,7 +10,7 @@ use Prim.Native.Nat.{ℕ, zero, suc, ◌-◌, ◌≤◌, ◌<◌}
 use native.Mathlib.Omega.{arith}
 use lib.ListN.{length, get_or, take, drop}
 use lib.Seq.{take_all, take-suc, split_at, length-take-le}
-use Rattle.rows.specs.Choice.{if◌then◌else◌, ◌=?◌}
+use Rattle.rows.specs.Choice.{◌=?◌}
 use Rattle.rows.specs.Reply.{refused, bad_line}
 use Rattle.measure.specs.Epoch.{Epoch}
 use Rattle.rows.proofs.Choice.{lt_or_ge}

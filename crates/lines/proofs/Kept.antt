@@ -1,6 +1,7 @@
 -- Where the whole lines of a block end, and that they are answered and six bytes of the unfinished line kept as well as if the whole input
 -- were at hand.
 -- Assumes nothing.
+use Rattle.std.specs.Prelude.{if◌then◌else◌}
 use mathlib.Core.Bool.{Bool, true, false, false≢true}
 use mathlib.Core.Logic.{⊎_elim}
 use mathlib.Core.Path.{◌≡◌, ◌∙◌, refl, sym, ap}
@@ -10,7 +11,7 @@ use native.Mathlib.Omega.{arith}
 use borrow.Author.Tests.{eqb-true, eq-eqb, ltb-true, ltb-false}
 use lib.ListN.{length, get_or, take, drop, length-take, length-drop}
 use lib.Seq.{get_or-drop, take_all, take-take, take-add, drop_at, length-take-le}
-use Rattle.rows.specs.Choice.{if◌then◌else◌, ◌<?◌, ◌=?◌}
+use Rattle.rows.specs.Choice.{◌<?◌, ◌=?◌}
 use Rattle.measure.specs.Epoch.{shoushi}
 use Rattle.rows.proofs.Choice.{lt_or_ge}
 use Rattle.frames.specs.LineEnds.{line_end, line_length}

@@ -1,5 +1,6 @@
 -- Laws of replies to lines: what is refused, how long a reply is, and the replies to all lines of an input.
 -- Assumes nothing.
+use Rattle.std.specs.Prelude.{if◌then◌else◌}
 use mathlib.Core.Bool.{Bool, true, false}
 use mathlib.Core.Logic.{⊎_elim}
 use mathlib.Core.Path.{◌≡◌, ◌∙◌, refl, ap, subst, subst⁻¹}
@@ -11,7 +12,7 @@ use borrow.Author.Tests.{eqb-true, eqb-false, le-ltb}
 use borrow.Rule.Slice.PartMut.{put_mid}
 use lib.ListN.{length, take, drop, replicate, length-append}
 use lib.Seq.{length-take-le}
-use Rattle.rows.specs.Choice.{if◌then◌else◌, ◌=?◌}
+use Rattle.rows.specs.Choice.{◌=?◌}
 use Rattle.rows.specs.Reply.{Reply, answer, refused, no_day, bad_line}
 use Rattle.rows.specs.Row.{over}
 use Rattle.measure.specs.Epoch.{Epoch, shoushi}

@@ -1,7 +1,7 @@
 -- "The line program": one frame a line, one day in and one month out. How a line asks for a day, and the line of a reply, are in `frames`.
 -- Assumes nothing.
-use Rattle.std.specs.Prelude.{List, [], ◌∷◌, ◌++◌, ℕ, ◌*◌, length}
-use Rattle.rows.specs.Choice.{if◌then◌else◌, ◌<?◌, ◌=?◌}
+use Rattle.std.specs.Prelude.{List, [], ◌∷◌, ◌++◌, ℕ, ◌*◌, length, if◌then◌else◌}
+use Rattle.rows.specs.Choice.{◌<?◌, ◌=?◌}
 use Rattle.rows.specs.Reply.{Reply, answer, refused, short_row, refuse_if}
 use Rattle.measure.specs.Epoch.{Epoch}
 use Rattle.months.specs.Month.{MonthOfDay, day_reply}

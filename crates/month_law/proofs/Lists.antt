@@ -1,6 +1,7 @@
 -- The list of months of a year: it has 12 months or 13, as many without a middle term as it has beyond 12, and that one is never the
 -- head. The leap mark stands at just that month.
 -- Assumes nothing.
+use Rattle.std.specs.Prelude.{if◌then◌else◌}
 use mathlib.Core.Bool.{true, false, ◌&&◌}
 use mathlib.Core.Logic.{◌⊎◌, inl, inr, ⊎_elim}
 use mathlib.Core.Path.{◌≡◌, ap, sym, ◌∙◌}
@@ -8,7 +9,7 @@ use Prim.Native.Nat.{ℕ, zero, suc, ◌+◌, ◌-◌, ◌*◌, ◌≤◌, ◌<�
 use native.Mathlib.Nat.{add-zero, add-suc, add-sub_of_le}
 use native.Mathlib.Omega.{arith}
 use borrow.Author.Tests.{eq-eqb, ne_eqb}
-use Rattle.rows.specs.Choice.{if◌then◌else◌, ◌≤?◌, ◌=?◌}
+use Rattle.rows.specs.Choice.{◌≤?◌, ◌=?◌}
 use Rattle.rows.proofs.Choice.{lt_or_ge, passes_or_fails, if_le}
 use Rattle.month_law.specs.Count.{count}
 use Rattle.month_law.specs.Calendar.{Calendar, head, months_in, held, leap_at}

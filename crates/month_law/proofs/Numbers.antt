@@ -1,6 +1,7 @@
 -- The numbers of the months of a list: they are those of the middle terms, the leap month repeats the number before it, and the
 -- ordinary months have 11, 12, 1 .. 10 in order.
 -- Assumes nothing.
+use Rattle.std.specs.Prelude.{if◌then◌else◌}
 use mathlib.Core.Bool.{true, false}
 use mathlib.Core.List.{List, [], ◌∷◌, ◌++◌}
 use mathlib.Core.Logic.{⊎_elim}
@@ -8,7 +9,6 @@ use mathlib.Core.Path.{◌≡◌, refl, ap, sym, ◌∙◌}
 use Prim.Native.Nat.{ℕ, zero, suc, ◌+◌, ◌-◌, ◌*◌, ◌%◌, ◌≤◌, ◌<◌}
 use native.Mathlib.Nat.{add-suc}
 use native.Mathlib.Omega.{arith}
-use Rattle.rows.specs.Choice.{if◌then◌else◌}
 use Rattle.rows.proofs.Choice.{passes_or_fails}
 use Rattle.month_law.specs.Count.{one_if, count}
 use Rattle.month_law.specs.Calendar.{Calendar, number_of_rank, head, months_in, leap_at, number_at}

@@ -1,7 +1,6 @@
 -- How many of the places 0 .. k − 1 pass a test.
 -- Assumes nothing.
-use Rattle.std.specs.Prelude.{Bool, ℕ, zero, suc, ◌+◌}
-use Rattle.rows.specs.Choice.{if◌then◌else◌}
+use Rattle.std.specs.Prelude.{Bool, ℕ, zero, suc, ◌+◌, if◌then◌else◌}
 
 abbrev pub one_if : Bool → ℕ
 one_if b = if b then 1 else 0

@@ -1,7 +1,7 @@
 -- What was read, and what is done with it. What is read and written cannot be said, so each turn is held to what it has in hand.
 -- Assumes nothing.
-use Rattle.std.specs.Prelude.{Bool, ◌≡◌, List, [], ◌++◌, ℕ, length, take}
-use Rattle.rows.specs.Choice.{if◌then◌else◌, ◌=?◌}
+use Rattle.std.specs.Prelude.{Bool, ◌≡◌, List, [], ◌++◌, ℕ, length, take, if◌then◌else◌}
+use Rattle.rows.specs.Choice.{◌=?◌}
 use Rattle.measure.specs.Epoch.{shoushi}
 use Rattle.lines.specs.Line.{output}
 use Rattle.lines.specs.Block.{kept_of, written, block_of}

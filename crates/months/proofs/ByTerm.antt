@@ -1,10 +1,10 @@
 -- A month's year, number and leap mark by the last middle term before its end.
 -- Assumes nothing.
+use Rattle.std.specs.Prelude.{if◌then◌else◌}
 use mathlib.Core.Bool.{Bool, true, false}
 use mathlib.Core.Path.{◌≡◌, refl, ap, sym, ◌∙◌}
 use Prim.Native.Nat.{ℕ, suc, ◌+◌, ◌-◌, ◌/◌, ◌<◌}
 use native.Mathlib.Omega.{arith}
-use Rattle.rows.specs.Choice.{if◌then◌else◌}
 use Rattle.month_law.specs.Count.{one_if}
 use Rattle.month_law.specs.Calendar.{Calendar, length_of, month_of, head, months_in, year_of, leap_at, number_at, leap_mark}
 use Rattle.month_law.specs.Lawful.{Lawful}

@@ -1,7 +1,7 @@
 -- "A reply about a day".
 -- Assumes nothing.
-use Rattle.std.specs.Prelude.{ℕ, ◌+◌, ◌-◌}
-use Rattle.rows.specs.Choice.{if◌then◌else◌, ◌<?◌}
+use Rattle.std.specs.Prelude.{ℕ, ◌+◌, ◌-◌, if◌then◌else◌}
+use Rattle.rows.specs.Choice.{◌<?◌}
 use Rattle.rows.specs.Reply.{Reply, answer, refused, no_day, refuse_if}
 use Rattle.measure.specs.Epoch.{Epoch}
 use Rattle.month_law.specs.Calendar.{Calendar, length_of, month_of, head, year_of, leap_at, number_at}

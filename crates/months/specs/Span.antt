@@ -1,7 +1,7 @@
 -- What a program carries from month to month, and the last middle term before a month's end, by which its kind is told.
 -- Assumes nothing.
-use Rattle.std.specs.Prelude.{ℕ, suc, ◌≤◌, ◌<◌}
-use Rattle.rows.specs.Choice.{if◌then◌else◌, ◌<?◌}
+use Rattle.std.specs.Prelude.{ℕ, suc, ◌≤◌, ◌<◌, if◌then◌else◌}
+use Rattle.rows.specs.Choice.{◌<?◌}
 use Rattle.month_law.specs.Calendar.{Calendar, number_of_rank}
 use Rattle.months.specs.Kind.{Kind, ordinary, leap}
 use Rattle.months.specs.declared.Span.{Span}

@@ -1,5 +1,6 @@
 -- Laws of the marks of a text: one mark more, and none left.
 -- Assumes nothing.
+use Rattle.std.specs.Prelude.{if◌then◌else◌}
 use mathlib.Core.Bool.{Bool, true, false}
 use mathlib.Core.List.{List, [], ◌∷◌, ◌++◌}
 use mathlib.Core.Logic.{◌⊎◌, inl, inr}
@@ -8,7 +9,6 @@ use Prim.Native.Nat.{ℕ, zero, suc, ◌≤◌, ◌<◌}
 use native.Mathlib.Omega.{arith}
 use borrow.Author.Tests.{eq-eqb, ne_eqb}
 use lib.ListN.{length}
-use Rattle.rows.specs.Choice.{if◌then◌else◌}
 use Rattle.rows.specs.Reply.{Reply, answer, refused, bad_line}
 use Rattle.rows.proofs.Choice.{lt_or_ge, passes_or_fails}
 use Rattle.words.specs.Number.{number_of}

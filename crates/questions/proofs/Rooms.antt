@@ -1,12 +1,13 @@
 -- How many numbers a line's list takes: a number for each year is enough for every list but the months of many years.
 -- Assumes nothing.
+use Rattle.std.specs.Prelude.{if◌then◌else◌}
 use mathlib.Core.Bool.{false}
 use mathlib.Core.List.{List}
 use mathlib.Core.Path.{◌≡◌, refl, ap, ap₂}
 use Prim.Native.Nat.{ℕ, suc, ◌/◌, ◌≤◌}
 use native.Mathlib.Omega.{arith}
 use lib.ListN.{length}
-use Rattle.rows.specs.Choice.{if◌then◌else◌, ◌<?◌}
+use Rattle.rows.specs.Choice.{◌<?◌}
 use Rattle.rows.specs.Reply.{Reply, answer, refused}
 use Rattle.measure.specs.Units.{last_year}
 use Rattle.measure.specs.Epoch.{shoushi}

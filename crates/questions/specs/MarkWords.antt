@@ -1,8 +1,7 @@
 -- The marks that a text gives, one after the other: `name P N`, `stem P S`, `branch P B`, `length P D` or `leap P`, with one blank
 -- before each word and number. P is the place.
 -- Assumes nothing.
-use Rattle.std.specs.Prelude.{ℕ, zero, suc, true, false, List, [], ◌∷◌, ◌++◌, length}
-use Rattle.rows.specs.Choice.{if◌then◌else◌}
+use Rattle.std.specs.Prelude.{ℕ, zero, suc, true, false, List, [], ◌∷◌, ◌++◌, length, if◌then◌else◌}
 use Rattle.rows.specs.Reply.{Reply, answer, refused, bad_line}
 use Rattle.words.specs.Number.{number_of}
 use Rattle.words.specs.declared.decimals.Number.{Number}

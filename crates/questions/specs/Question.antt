@@ -1,14 +1,14 @@
 -- The questions: which words there are, which numbers follow each, and the reply. A question is words and decimal numbers with
 -- one blank between them, and whatever is no question is refused. Where a list is asked for, `room` is how many numbers the lent row has.
 -- Assumes nothing.
-use Rattle.std.specs.Prelude.{ℕ, ◌/◌, List, [], ◌∷◌, length}
+use Rattle.std.specs.Prelude.{ℕ, ◌/◌, List, [], ◌∷◌, length, if◌then◌else◌}
 use Rattle.words.specs.Line.{word_of, after_word}
 use Rattle.words.specs.Choice.{Choices, chosen, choice_at}
 use Rattle.words.specs.Numbers.{part_of, rest_of, numbers_of}
 use Rattle.words.specs.Text.{◌is◌}
 use Rattle.words.specs.declared.Numbers.{Numbers}
 use Rattle.words.specs.declared.Numbers.TheVariants.{Nothing, One, Two, Three, Other}
-use Rattle.rows.specs.Choice.{if◌then◌else◌, ◌<?◌}
+use Rattle.rows.specs.Choice.{◌<?◌}
 use Rattle.rows.specs.Reply.{Reply, answer, refused}
 use Rattle.measure.specs.Epoch.{Epoch}
 use Rattle.measure.specs.Days.{name_of}

@@ -1,7 +1,7 @@
 -- "Extra and vanishing days": each is judged on a remainder alone, and found by the days to add to its day.
 -- Assumes nothing.
-use Rattle.std.specs.Prelude.{◌≡◌, refl, ℕ, ◌+◌, ◌*◌, ◌-◌, ◌/◌}
-use Rattle.rows.specs.Choice.{if◌then◌else◌, ◌≤?◌}
+use Rattle.std.specs.Prelude.{◌≡◌, refl, ℕ, ◌+◌, ◌*◌, ◌-◌, ◌/◌, if◌then◌else◌}
+use Rattle.rows.specs.Choice.{◌≤?◌}
 use Rattle.rows.specs.Reply.{Reply, answer, refused, outside, refuse_if}
 use Rattle.measure.specs.Units.{day, term_step, month_deficit}
 use Rattle.remainders.specs.declared.DaysAnswer.{DaysAnswer}

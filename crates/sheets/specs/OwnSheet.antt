@@ -1,7 +1,6 @@
 -- The sheet made from a year's own list.
 -- Assumes nothing.
-use Rattle.std.specs.Prelude.{List, [], ◌∷◌, ◌++◌, ℕ, zero, suc, ◌+◌}
-use Rattle.rows.specs.Choice.{if◌then◌else◌}
+use Rattle.std.specs.Prelude.{List, [], ◌∷◌, ◌++◌, ℕ, zero, suc, ◌+◌, if◌then◌else◌}
 use Rattle.measure.specs.Days.{sixty_name, stem, branch}
 use Rattle.month_law.specs.Calendar.{Calendar, length_of, head, leap_at}
 use Rattle.sheets.specs.Marks.{marked}

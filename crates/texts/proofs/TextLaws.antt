@@ -1,6 +1,7 @@
 -- Laws of texts with holes: one byte of the template more, how long a text can be, one template after another, and
 -- more numbers than it takes.
 -- Assumes nothing.
+use Rattle.std.specs.Prelude.{if◌then◌else◌}
 use mathlib.Core.Bool.{Bool, true, false}
 use mathlib.Core.Path.{◌≡◌, ◌∙◌, refl, sym, ap}
 use mathlib.Core.List.{List, [], ◌∷◌, ◌++◌, append_assoc}
@@ -10,7 +11,7 @@ use native.Mathlib.Numerals.{add-one}
 use native.Mathlib.Omega.{arith}
 use lib.ListN.{length, get_or, drop, length-append, length-drop, get_or-append}
 use lib.Seq.{drop-cons, drop-drop, get_or-drop, drop-append-le}
-use Rattle.rows.specs.Choice.{if◌then◌else◌, ◌=?◌}
+use Rattle.rows.specs.Choice.{◌=?◌}
 use Rattle.rows.proofs.Choice.{if_cases}
 use Rattle.texts.specs.Text.{decimal, hole, piece, numbers_taken, holes, filled, most_digits, text_room}
 use Rattle.texts.proofs.DecimalLaws.{decimal_most}

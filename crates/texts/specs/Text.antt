@@ -1,7 +1,7 @@
 -- Texts with holes: each % of a template stands for the next number, in decimal.
 -- Assumes nothing.
-use Rattle.std.specs.Prelude.{List, [], ◌∷◌, ◌++◌, ℕ, zero, suc, ◌+◌, ◌*◌, ◌/◌, ◌%◌, length, get_or, drop}
-use Rattle.rows.specs.Choice.{if◌then◌else◌, ◌<?◌, ◌=?◌}
+use Rattle.std.specs.Prelude.{List, [], ◌∷◌, ◌++◌, ℕ, zero, suc, ◌+◌, ◌*◌, ◌/◌, ◌%◌, length, get_or, drop, if◌then◌else◌}
+use Rattle.rows.specs.Choice.{◌<?◌, ◌=?◌}
 use Rattle.rows.specs.Reply.{Reply, answer, short_row, refuse_if}
 
 -- the byte of a digit

@@ -1,11 +1,12 @@
 -- What the viewer is told says the whole reply: months, refusals and records are read back from the structs and the bytes as they were.
 -- So no refusal can be taken for a month, and no place of a number is lost.
 -- Assumes nothing.
+use Rattle.std.specs.Prelude.{if◌then◌else◌}
 use mathlib.Core.Path.{◌≡◌, refl}
 use Prim.Native.Nat.{ℕ, zero, suc, ◌+◌, ◌≤◌, ◌<◌}
 use native.Mathlib.Omega.{arith}
 use borrow.Author.Tests.{ne_eqb}
-use Rattle.rows.specs.Choice.{if◌then◌else◌, ◌=?◌}
+use Rattle.rows.specs.Choice.{◌=?◌}
 use Rattle.rows.specs.Reply.{Reply, answer, refused}
 use Rattle.measure.specs.Units.{last_year}
 use Rattle.measure.specs.Epoch.{shoushi}

@@ -1,4 +1,5 @@
 -- Laws of what a word chooses: the choice at its place. Assumes nothing.
+use Rattle.std.specs.Prelude.{if◌then◌else◌}
 use Prim.Native.Nat.{ℕ, zero, suc, ◌≤◌}
 use Prim.Native.String.{String}
 use mathlib.Core.Path.{◌≡◌, ◌∙◌, refl, sym, ap}
@@ -6,7 +7,6 @@ use mathlib.Core.List.{List, [], ◌∷◌}
 use mathlib.Core.Bool.{Bool, true, false}
 use native.Mathlib.Omega.{arith}
 use lib.ListN.{length}
-use Rattle.rows.specs.Choice.{if◌then◌else◌}
 use Rattle.words.specs.Text.{◌is◌}
 use Rattle.words.specs.Choice.{Choices, chosen, choice_at}
 

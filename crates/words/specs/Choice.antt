@@ -1,8 +1,7 @@
 -- What a word chooses from a list of words, each with what it stands for.
 -- Assumes nothing.
-use Rattle.std.specs.Prelude.{ℕ, zero, suc, List, [], ◌∷◌}
+use Rattle.std.specs.Prelude.{ℕ, zero, suc, List, [], ◌∷◌, if◌then◌else◌}
 use Prim.Native.String.{String}
-use Rattle.rows.specs.Choice.{if◌then◌else◌}
 use Rattle.words.specs.Text.{◌is◌}
 
 abbrev pub Choices : Type 0 → Type 0

@@ -1,8 +1,7 @@
 -- The place of a word in a text that is a list of words.
 -- Assumes nothing.
-use Rattle.std.specs.Prelude.{ℕ, zero, suc, List, length}
+use Rattle.std.specs.Prelude.{ℕ, zero, suc, List, length, if◌then◌else◌}
 use Rattle.words.specs.Numbers.{is_empty, part_of, rest_of}
-use Rattle.rows.specs.Choice.{if◌then◌else◌}
 use Rattle.words.specs.Text.{same}
 
 -- how many of the first n parts of s stand before the word
