@@ -1,4 +1,4 @@
-// What the benchmarks call: proved functions behind C's interface.
+// What the benchmarks call.
 #![tactic(auto)]
 
 ghost use Rattle.std.specs.Prelude.{◌≡◌, ◌/◌, length};
@@ -25,16 +25,14 @@ pub struct Timed {
 }
 
 // The true moon's running time.
-#[unsafe(no_mangle)]
-pub extern "C" fn timing_true_moon(l: u64, q: u64) -> Timed
+pub fn timing_true_moon(l: u64, q: u64) -> Timed
     ensures { result ≡ number_told (true_reply shoushi l q) }
 {
     number_told(moons::true_moon(l, q))
 }
 
 // The records of so many years; how many there are.
-#[unsafe(no_mangle)]
-pub extern "C" fn timing_run(row: &mut [u64], n: u64, count: u64) -> Timed
+pub fn timing_run(row: &mut [u64], n: u64, count: u64) -> Timed
     ensures value { result ≡ number_told (run_reply shoushi n count (length row.old / record_width)) }
     ensures writes { row.new ≡ row_after (run_reply shoushi n count (length row.old / record_width)) (run_of (calendar shoushi) n count) row.old }
 {
@@ -42,8 +40,7 @@ pub extern "C" fn timing_run(row: &mut [u64], n: u64, count: u64) -> Timed
 }
 
 // The terms of a year, carried from one to the next; how many there are.
-#[unsafe(no_mangle)]
-pub extern "C" fn timing_terms(row: &mut [u64], n: u64) -> Timed
+pub fn timing_terms(row: &mut [u64], n: u64) -> Timed
     ensures value { result ≡ number_told (terms_reply n (length row.old)) }
     ensures writes { row.new ≡ row_after (terms_reply n (length row.old)) (term_list shoushi n) row.old }
 {
@@ -52,8 +49,7 @@ pub extern "C" fn timing_terms(row: &mut [u64], n: u64) -> Timed
 
 // The same, each multiplied anew: what carrying them is timed against.
 #[tactic(auto, using(rows::proofs::Row::put_listed), unfolding(seasons::specs::Terms::term_list, seasons::specs::Terms::terms_reply, rows::specs::Row::over, rows::specs::Row::listed))]
-#[unsafe(no_mangle)]
-pub extern "C" fn timing_terms_anew(row: &mut [u64], n: u64) -> Timed
+pub fn timing_terms_anew(row: &mut [u64], n: u64) -> Timed
     ensures value { result ≡ number_told (terms_reply n (length row.old)) }
     ensures writes { row.new ≡ row_after (terms_reply n (length row.old)) (term_list shoushi n) row.old }
 {
