@@ -37,7 +37,7 @@ fn answered(line: &[u8], buf: &mut [u8]) -> usize
     written.bytes as usize
 }
 
-// Writes out; whether all of it went through. Where it did not, standard error says so, since a program has no exit status.
+// Writes out; whether all of it went through. Where it did not, standard error says so, and the program ends.
 fn write_out(rt: &(impl Print + Eprint), out: &[u8]) -> bool {
     let ok = rt.write_all(out).is_ok();
     if !ok {

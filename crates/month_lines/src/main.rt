@@ -59,7 +59,7 @@ fn read_more(input: &mut impl ReadBytes, buf: &mut [u8], kept: usize) -> Got
     reads::given(answered, part)
 }
 
-// Writes out; whether all of it went through. Where it did not, standard error says so, since a program has no exit status.
+// Writes out; whether all of it went through. Where it did not, standard error says so, and the program ends.
 fn write_out(rt: &(impl Print + Eprint), out: &[u8]) -> bool {
     let ok = rt.write_all(out).is_ok();
     if !ok {
