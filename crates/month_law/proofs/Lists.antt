@@ -74,7 +74,7 @@ module _ (c : Calendar) (ok : Lawful c) where
       order_back c.first (first_rises c ok) (head c (suc n)) (head c n + 13) (omega (arith, head_holds c ok (suc n))) in
       omega (arith, months_in_least n))
 
-  -- the list of year n has the months at places 0 .. monthsIn n - 1 from its head
+  -- the list of year n has the months at places 0 .. months_in n - 1 from its head
   pub place_listed : (n p : ℕ) → p < months_in c n → InList c n (head c n + p)
   place_listed n p h = record { since = omega arith; until = omega arith }
 

@@ -4,13 +4,10 @@ use mathlib.Core.List.{List}
 use mathlib.Core.Path.{◌≡◌, ◌∙◌, sym}
 use Prim.Native.Nat.{ℕ}
 use lib.ListN.{length}
-use contract.Lifetimes.{Lfts}
-use borrow.Fn.Kinds.{ParamKind, ResultKind, Out, Dens, res_t, ended_of}
-use denote.Triple.Clauses.{AtExit}
 use Rattle.rows.specs.Reply.{Reply}
 use Rattle.measure.specs.Epoch.{shoushi}
 use Rattle.rows.specs.declared.Answer.{Answer}
-use Rattle.rows.proofs.Determined.{one_answer}
+use Rattle.rows.proofs.Determined.{OneOutcome, one_answer}
 use Rattle.month_law.specs.Calendar.{months_in}
 use Rattle.edition.specs.Edition.{calendar}
 use Rattle.lists.specs.Records.{records_of}
@@ -18,18 +15,6 @@ use Rattle.lists.specs.Lists.{run_of, list_reply, run_reply}
 use Rattle.records.specs.declared.MonthRecord.{MonthRecord}
 use Rattle.records.proofs.Runs.{Says, YearSays, RunSays}
 use Rattle.records.proofs as own
-
--- two replies that meet the contract are equal, and so are the two rows of structs. The contract is the `Post` that is read off the source,
--- so a weaker `ensures` there fails here
-abbrev pub OneOutcome : {n : ℕ} (ps : List (ParamKind n)) (r : ResultKind n)
-    → Out n ps r
-    → ((κs : Lfts n) → AtExit (ended_of n ps r) κs → List MonthRecord)
-    → Type 0
-OneOutcome {n} ps r Post row =
-    (κs : Lfts n) (a : Dens κs ps) (x y : (res_t r κs).Denot) (s t : AtExit (ended_of n ps r) κs)
-    → Post κs a x s
-    → Post κs a y t
-    → (x ≡ y) × (row κs s ≡ row κs t)
 
 pub year_records_unique : OneOutcome own.year_records.Kinds.ps own.year_records.Kinds.r own.year_records.Reads.Post (λ κs s. s.1.0.now)
 year_records_unique κs a x y s t p q = (one_answer x y _ p.0 q.0, p.1 ∙ sym q.1)

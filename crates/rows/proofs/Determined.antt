@@ -19,10 +19,10 @@ OneReply {n} ps r Post =
     → Post κs a y t
     → x ≡ y
 
--- and, where a row is lent, what it holds at the end is equal too
-abbrev pub OneOutcome : {n : ℕ} (ps : List (ParamKind n)) (r : ResultKind n)
+-- and, where a row of numbers or of anything else is lent, what it holds at the end is equal too
+abbrev pub OneOutcome : {n : ℕ} {A : Type 0} (ps : List (ParamKind n)) (r : ResultKind n)
     → Out n ps r
-    → ((κs : Lfts n) → AtExit (ended_of n ps r) κs → List ℕ)
+    → ((κs : Lfts n) → AtExit (ended_of n ps r) κs → List A)
     → Type 0
 OneOutcome {n} ps r Post row =
     (κs : Lfts n) (a : Dens κs ps) (x y : (res_t r κs).Denot) (s t : AtExit (ended_of n ps r) κs)

@@ -1,4 +1,4 @@
--- How the definitions choose: one case or the other by a test of two numbers.
+-- How the definitions choose: by a test of two numbers.
 -- Assumes nothing.
 use Rattle.std.specs.Prelude.{Bool, ℕ, leb, ltb, eqb}
 

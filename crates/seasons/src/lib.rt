@@ -78,7 +78,7 @@ pub fn term_time(n: u64, i: u64) -> u64
 }
 
 // The terms of year n from the row's start; how many there are. After the year, a row that is too short is refused with 4.
-#[tactic(auto, unfolding(crate::specs::Terms::terms_reply))]
+#[tactic(auto, using(crate::proofs::TermLaws::terms_late, crate::proofs::TermLaws::terms_short, crate::proofs::TermLaws::terms_answered))]
 pub fn terms(n: u64, row: &mut [u64]) -> Answer
     ensures value { answer_said result ≡ terms_reply n (length row.old) }
     ensures writes { row.new ≡ row_after (terms_reply n (length row.old)) (term_list shoushi n) row.old }
@@ -94,7 +94,7 @@ pub fn terms(n: u64, row: &mut [u64]) -> Answer
 }
 
 // Each term is the one before it carried forward by one step, as learners add them up.
-#[tactic(auto, using(crate::proofs::TermLaws::term_most, crate::proofs::TermLaws::term_next, rows::proofs::Row::put_listed), unfolding(crate::specs::Terms::term_list, rows::specs::Row::over, rows::specs::Row::listed))]
+#[tactic(auto, using(crate::proofs::TermLaws::term_most, crate::proofs::TermLaws::term_next, rows::proofs::Row::put_listed, rows::proofs::Row::listed_none, rows::proofs::Row::over_is), unfolding(crate::specs::Terms::term_list))]
 fn write_terms(n: u64, row: &mut [u64])
     requires { (n ≤ last_year) × (terms ≤ length row.old) }
     ensures { row.new ≡ over (term_list shoushi n) row.old }

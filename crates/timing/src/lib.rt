@@ -48,7 +48,7 @@ pub fn timing_terms(row: &mut [u64], n: u64) -> Timed
 }
 
 // The same, each multiplied anew: what carrying them is timed against.
-#[tactic(auto, using(rows::proofs::Row::put_listed), unfolding(seasons::specs::Terms::term_list, seasons::specs::Terms::terms_reply, rows::specs::Row::over, rows::specs::Row::listed))]
+#[tactic(auto, using(rows::proofs::Row::put_listed, rows::proofs::Row::listed_none, rows::proofs::Row::over_is, seasons::proofs::TermLaws::terms_are, seasons::proofs::TermLaws::terms_late, seasons::proofs::TermLaws::terms_short, seasons::proofs::TermLaws::terms_answered))]
 pub fn timing_terms_anew(row: &mut [u64], n: u64) -> Timed
     ensures value { result ≡ number_told (terms_reply n (length row.old)) }
     ensures writes { row.new ≡ row_after (terms_reply n (length row.old)) (term_list shoushi n) row.old }

@@ -1,4 +1,5 @@
 -- `questions::counted::alone_at` meets its contract. Assumes nothing.
+use borrow.Author.Rules.{rules}
 use Rattle.words.specs.Choice.{choice_at}
 use Rattle.rows.specs.Row.{over}
 use mathlib.Core.Path.{refl}
@@ -21,4 +22,4 @@ returns-in-1 c =
 pub returns-in_default : goal.returns-in_default
 unfolding alone
 returns-in_default c =
-    λ row. answers_as (no_place malformed alone c.args.k c.in_default.in_default-own.rest) (no_question row)
+    λ row. answers_as (no_place malformed alone c.args.k (search rules)) (no_question row)

@@ -1,4 +1,5 @@
 -- `questions::counted::three_at` meets its contract. Assumes nothing.
+use borrow.Author.Rules.{rules}
 use Rattle.measure.specs.Epoch.{shoushi}
 use Rattle.words.specs.Choice.{choice_at}
 use Rattle.words.proofs.Chosen.{no_place}
@@ -20,4 +21,4 @@ returns-in-1 c =
 pub returns-in_default : goal.returns-in_default
 unfolding with_three
 returns-in_default c =
-    λ row. answers_as (no_place malformed (with_three shoushi c.args.n c.args.i c.args.p) c.args.k c.in_default.in_default-own.rest) (no_question row)
+    λ row. answers_as (no_place malformed (with_three shoushi c.args.n c.args.i c.args.p) c.args.k (search rules)) (no_question row)

@@ -1,4 +1,5 @@
 -- `questions::counted::two_at` meets its contract. Assumes nothing.
+use borrow.Author.Rules.{rules}
 use lib.ListN.{length}
 use Rattle.measure.specs.Epoch.{shoushi}
 use Rattle.words.specs.Choice.{choice_at}
@@ -58,4 +59,4 @@ returns-in-8 c =
 pub returns-in_default : goal.returns-in_default
 unfolding with_two
 returns-in_default c =
-    answers_as (no_place malformed (with_two shoushi (length c.args.row.now) c.args.n c.args.i) c.args.k c.in_default.in_default-own.rest) (no_question _)
+    answers_as (no_place malformed (with_two shoushi (length c.args.row.now) c.args.n c.args.i) c.args.k (search rules)) (no_question _)

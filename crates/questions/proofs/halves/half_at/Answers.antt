@@ -1,4 +1,5 @@
 -- `questions::halves::half_at` meets its contract. Assumes nothing.
+use borrow.Author.Rules.{rules}
 use Rattle.words.specs.Choice.{choice_at}
 use Rattle.words.proofs.Chosen.{no_place}
 use Rattle.questions.specs.DeskReply.{malformed}
@@ -24,4 +25,4 @@ returns-in-2 c =
 pub returns-in_default : goal.returns-in_default
 unfolding with_half
 returns-in_default c =
-    λ row. answers_as (no_place malformed (with_half c.args.half.now c.args.t) c.args.k c.in_default.in_default-own.rest) (no_question row)
+    λ row. answers_as (no_place malformed (with_half c.args.half.now c.args.t) c.args.k (search rules)) (no_question row)

@@ -1,4 +1,5 @@
 -- `questions::halves::motion_by` meets its contract. Assumes nothing.
+use borrow.Author.Rules.{rules}
 use Rattle.words.specs.Choice.{choice_at}
 use Rattle.words.proofs.Chosen.{no_place}
 use Rattle.questions.specs.DeskReply.{malformed}
@@ -19,4 +20,4 @@ returns-in-1 c =
 pub returns-in_default : goal.returns-in_default
 unfolding motion_in
 returns-in_default c =
-    λ row. answers_as (no_place malformed (motion_in c.args.t) c.args.k c.in_default.in_default-own.rest) (no_question row)
+    λ row. answers_as (no_place malformed (motion_in c.args.t) c.args.k (search rules)) (no_question row)

@@ -1,4 +1,5 @@
 -- `marks::shown_at` meets its contract. Assumes nothing.
+use borrow.Author.Rules.{rules}
 use Rattle.words.specs.Choice.{choice_at}
 use Rattle.words.proofs.Chosen.{no_place}
 use Rattle.questions.specs.MarkWords.{showing}
@@ -8,7 +9,7 @@ use Rattle.questions.proofs.marks.shown_at.Goals as goal
 pub returns-in_default : goal.returns-in_default
 unfolding showing
 returns-in_default c =
-    no_place Unread (showing c.args.place c.args.n) c.args.k c.in_default.in_default-own.rest
+    no_place Unread (showing c.args.place c.args.n) c.args.k (search rules)
 
 pub returns-in-0 : goal.returns-in-0
 unfolding choice_at showing
