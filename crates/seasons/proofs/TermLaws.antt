@@ -3,13 +3,15 @@
 -- Assumes nothing.
 use mathlib.Core.Bool.{true, false}
 use mathlib.Core.Logic.{◌⊎◌, inl, inr}
-use mathlib.Core.Path.{◌≡◌, refl, ap}
+use mathlib.Core.Path.{◌≡◌, ◌∙◌, refl, ap}
 use Prim.Native.Nat.{ℕ, ◌+◌, ◌*◌, ◌≤◌, ◌<◌}
 use native.Mathlib.Omega.{arith}
 use borrow.Author.Tests.{ne_eqb, lt-ltb, le-ltb}
-use lib.ListN.{length}
+use mathlib.Core.List.{List, [], ◌++◌, append-nil}
+use lib.ListN.{length, take, drop}
+use lib.Seq.{drop-length, length-take-le}
 use Rattle.rows.specs.Choice.{◌<?◌}
-use Rattle.rows.specs.Row.{listed}
+use Rattle.rows.specs.Row.{listed, over}
 use Rattle.rows.specs.Reply.{Reply, answer, refused, no_year, short_row}
 use Rattle.rows.proofs.Choice.{refuse_cases}
 use Rattle.rows.proofs.Row.{length_listed}
@@ -71,6 +73,21 @@ terms_are e n = refl
 
 pub terms_length : (e : Epoch) (n : ℕ) → length (term_list e n) ≡ terms
 terms_length e n = rw terms_are (length_listed (term e n) 0 terms)
+
+-- a row's front of just their number has it
+pub front_length : (row : List ℕ) → terms ≤ length row → length (take terms row) ≡ terms
+front_length row room = length-take-le terms row room
+
+-- where the first of them are written over a row's front of just their number, all are over the row
+pub terms_written : (n i : ℕ) (row front : List ℕ) → front ≡ over (listed (term shoushi n) 0 i) (take terms row) → i ≡ terms → terms ≤ length row
+    → front ++ drop terms row ≡ over (term_list shoushi n) row
+unfolding over term_list
+terms_written n i row front e all room =
+    let long : length (listed (term shoushi n) 0 i) ≡ length (take terms row) =
+    omega (arith, length_listed (term shoushi n) 0 i, front_length row room) in
+    let none : drop (length (listed (term shoushi n) 0 i)) (take terms row) ≡ [] =
+    ap (λ (k : ℕ). drop k (take terms row)) long ∙ drop-length (take terms row) in
+    rw (e, none, append-nil, all, length_listed) refl
 
 -- the four terms before which earth rules, as a program's cases tell them
 abbrev pub OneOfFour : ℕ → Type 0

@@ -94,16 +94,14 @@ pub fn terms(n: u64, row: &mut [u64]) -> Answer
 }
 
 // Each term is the one before it carried forward by one step, as learners add them up.
-#[tactic(auto, using(crate::proofs::TermLaws::term_most, crate::proofs::TermLaws::term_next, rows::proofs::Row::put_listed, rows::proofs::Row::listed_none, rows::proofs::Row::over_is), unfolding(crate::specs::Terms::term_list))]
+#[tactic(auto, using(crate::proofs::TermLaws::term_most, crate::proofs::TermLaws::term_next, crate::proofs::TermLaws::terms_written, rows::proofs::Row::put_listed, rows::proofs::Row::listed_none, rows::proofs::Row::over_is, crate::proofs::TermLaws::front_length))]
 fn write_terms(n: u64, row: &mut [u64])
     requires { (n ≤ last_year) × (terms ≤ length row.old) }
     ensures { row.new ≡ over (term_list shoushi n) row.old }
 {
     let mut carried = term_time(n, 0);
-    let mut i: usize = 0;
-    while i < TERMS as usize {
-        row[i] = carried;
+    for slot in &mut row[..TERMS as usize] {
+        *slot = carried;
         carried += TERM_STEP;
-        i += 1;
     }
 }
