@@ -16,7 +16,7 @@ use measure::{LAST_YEAR, TERMS};
 use rows::{Answer, NO_YEAR, SHORT_ROW};
 use seasons::term_time;
 
-// An answer's number, with refused 0; a refusal has its number in refused, and 0 for the other.
+// An answer's number, with refused 0; a refusal has its number in refused, and 0 for the other. C, which reads it, has no Result.
 #[repr(C)]
 #[derive(Clone, Copy)]
 pub struct Timed {
@@ -48,7 +48,7 @@ pub fn timing_terms(row: &mut [u64], n: u64) -> Timed
 }
 
 // The same, each multiplied anew: what carrying them is timed against.
-#[tactic(auto, using(rows::proofs::Row::put_listed, rows::proofs::Row::listed_none, rows::proofs::Row::over_is, seasons::proofs::TermLaws::terms_are, seasons::proofs::TermLaws::terms_late, seasons::proofs::TermLaws::terms_short, seasons::proofs::TermLaws::terms_answered))]
+#[tactic(auto, using(rows::proofs::Row::put_listed, rows::proofs::Row::listed_none, rows::proofs::Row::over_is, seasons::proofs::TermLaws::front_length, seasons::proofs::TermLaws::terms_written, seasons::proofs::TermLaws::terms_late, seasons::proofs::TermLaws::terms_short, seasons::proofs::TermLaws::terms_answered))]
 pub fn timing_terms_anew(row: &mut [u64], n: u64) -> Timed
     ensures value { result ≡ number_told (terms_reply n (length row.old)) }
     ensures writes { row.new ≡ row_after (terms_reply n (length row.old)) (term_list shoushi n) row.old }
@@ -59,10 +59,8 @@ pub fn timing_terms_anew(row: &mut [u64], n: u64) -> Timed
     if row.len() < TERMS as usize {
         return number_told(Answer::Refused(SHORT_ROW));
     }
-    let mut i: usize = 0;
-    while i < TERMS as usize {
-        row[i] = term_time(n, i as u64);
-        i += 1;
+    for (i, slot) in row[..TERMS as usize].iter_mut().enumerate() {
+        *slot = term_time(n, i as u64);
     }
     number_told(Answer::Number(TERMS))
 }
