@@ -1,54 +1,30 @@
--- Laws of decimal digits: how many there are, that the fewest that hold a number are all of them, and that they spell it.
+-- Laws of decimal digits: that they are what the library writes of a number of 64 bits, how many there are, and that they spell it.
 -- Assumes nothing.
-use mathlib.Core.Logic.{⊎_elim}
 use mathlib.Core.Path.{◌≡◌, refl, sym}
 use mathlib.Core.List.{List, [], ◌∷◌, ◌++◌}
 use Prim.Native.Nat.{ℕ, zero, suc, ◌+◌, ◌-◌, ◌*◌, ◌/◌, ◌%◌, ◌^◌, ◌≤◌, ◌<◌}
-use native.Mathlib.Nat.{pow-zero, pow-suc, one-le-pow, pow-le-pow_right, mod-eq_of_lt, not-suc-le-zero}
-use native.Mathlib.Numerals.{unary_clauses}
+use native.Mathlib.Nat.{pow-zero, pow-suc}
 use native.Mathlib.Omega.{arith}
-use borrow.Author.Tests.{lt-ltb, le-ltb}
-use lib.Dec.{lit<}
+use borrow.Author.Tests.{lt-ltb}
 use lib.ListN.{length, length-append}
-use Rattle.io.specs.Digits.{hex_digit_ascii, last_digits, IsDigitCount}
+use Rattle.std.specs.Fmt.{decimal as written}
+use Rattle.std.proofs.lemmas.Fmt.{decimal_digit, decimal_step}
 use Rattle.rows.specs.Choice.{◌<?◌}
-use Rattle.rows.proofs.Choice.{lt_or_ge, if_cases, if_lt}
+use Rattle.rows.proofs.Choice.{if_cases, if_lt}
 use Rattle.texts.specs.Text.{digit, decimal_in, decimal, most_digits}
 
-one_digit : (n : ℕ) → hex_digit_ascii (n % 10) ≡ digit (n % 10)
-one_digit n = let small : n % 10 < 10 = omega arith in rw (lt-ltb (n % 10) 10 small)
-
--- the fewest digits that hold a number are its digits
-digits_in : (k r n : ℕ) → r < k → n < 10 ^ suc r → (0 < r → 10 ^ r ≤ n) → decimal_in k n ≡ last_digits 10 (suc r) n
+-- what the library writes of a number
+written_in : (k n : ℕ) → n < 10 ^ suc k → n < 2 ^ 64 → decimal_in (suc k) n ≡ written n
 unfolding decimal_in
-digits_in zero r n h below least = absurd (not-suc-le-zero h)
-digits_in (suc k) zero n h below least =
-    let small : n < 10 = omega (arith, pow-suc 10 0) in
-    rw (lt-ltb n 10 small) (rw (one_digit n, mod-eq_of_lt small))
-digits_in (suc k) (suc r) n h below least =
-    let power : 10 ^ suc r ≤ n = least (omega arith) in
-    let some : 1 ≤ 10 ^ r = one-le-pow r 10 (lit< tt) in
-    let large : 10 ≤ n = omega (arith, pow-suc 10 r) in
-    let rest : decimal_in k (n / 10) ≡ last_digits 10 (suc r) (n / 10) =
-    digits_in k r (n / 10) (omega arith) (omega (arith, pow-suc 10 (suc r))) (λ _. omega (arith, pow-suc 10 r)) in
-    rw (le-ltb n 10 large) (rw (rest, one_digit n))
+written_in zero n h fits = let small : n < 10 = omega (arith, pow-suc 10 0) in rw (lt-ltb n 10 small, decimal_digit n small)
+written_in (suc k) n h fits =
+    if_lt (λ (l : List ℕ). l ≡ written n) (digit n ∷ []) (decimal_in (suc k) (n / 10) ++ (digit (n % 10) ∷ [])) n 10
+    (λ small. sym (decimal_digit n small))
+    (λ large. rw (decimal_step n large fits, written_in k (n / 10) (omega (arith, pow-suc 10 (suc k))) (omega arith)))
 
-pub fewest_digits : (r n : ℕ) → r ≤ most_digits → IsDigitCount 10 1 n r → last_digits 10 r n ≡ decimal n
+pub decimal_written : (n : ℕ) → n < 2 ^ 64 → written n ≡ decimal n
 unfolding decimal
-fewest_digits zero n h f = absurd (not-suc-le-zero f.0)
-fewest_digits (suc r) n h f =
-    sym (digits_in most_digits r n (omega arith) f.1 (λ g. simp unary_clauses at (f.2 (omega arith))))
-
--- which for a number of 64 bits are few
-pub few_digits : (r n : ℕ) → n < 2 ^ 64 → IsDigitCount 10 1 n r → r ≤ most_digits
-few_digits r n h f =
-    ⊎_elim
-    (λ (g : most_digits < r).
-    let most : 10 ^ (r - 1) ≤ n = f.2 (omega arith) in
-    let least : 10 ^ most_digits ≤ 10 ^ (r - 1) = pow-le-pow_right (lit< tt) {i = most_digits} {j = r - 1} (omega arith) in
-    absurd (omega arith))
-    (λ (g : r ≤ most_digits). g)
-    (lt_or_ge most_digits r)
+decimal_written n h = sym (written_in 19 n (omega arith) h)
 
 -- there are never more than are asked for
 in_most : (k n : ℕ) → length (decimal_in k n) ≤ k

@@ -6,22 +6,37 @@ use mathlib.Core.Bool.{Bool, true, false}
 use mathlib.Core.Path.{◌≡◌, ◌∙◌, refl, sym, ap}
 use mathlib.Core.List.{List, [], ◌∷◌, ◌++◌, append_assoc}
 use Prim.Native.Nat.{ℕ, ◌+◌, ◌≤◌, ◌<◌}
-use native.Mathlib.Nat.{add-zero}
 use native.Mathlib.Numerals.{add-one}
 use native.Mathlib.Omega.{arith}
 use lib.ListN.{length, get_or, drop, length-append, length-drop, get_or-append}
-use lib.Seq.{drop-cons, drop-drop, get_or-drop, drop-append-le}
+use lib.Seq.{drop-cons, drop-drop, drop-append-le}
+use borrow.Author.Tests.{ne_eqb}
+use denote.Bor.{Bor}
+use Rattle.std.specs.Prelude.{Option, Some, None, unwrap_or, option_copied}
+use Rattle.std.specs.declared.slice.Iter.{Iter}
+use Rattle.std.proofs.lemmas.Grind.{common_steps}
+use Rattle.std.specs.Slice.Iter.{iter_rest, iter_steps}
 use Rattle.rows.specs.Choice.{◌=?◌}
 use Rattle.rows.proofs.Choice.{if_cases}
 use Rattle.texts.specs.Text.{decimal, hole, piece, numbers_taken, holes, filled, most_digits, text_room}
 use Rattle.texts.proofs.DecimalLaws.{decimal_most}
 
--- one byte more of a template, where so many numbers are written already
-pub filled_step : (t ns : List ℕ) (i j : ℕ) → i < length t
-    → filled (drop i t) (drop j ns) ≡ piece (get_or t i 0) (get_or ns j 0) ++ filled (drop (i + 1) t) (drop (j + numbers_taken (get_or t i 0)) ns)
-unfolding filled
-filled_step t ns i j h =
-    rw (add-one, drop-cons t i 0 h) (rw (get_or-drop j ns 0 0, add-zero j, drop-drop (numbers_taken (get_or t i 0)) j ns))
+-- one byte more of a template: a hole takes the next of the numbers that are left, and any other byte none
+pub filled_hole : (t ns : List ℕ) (i : ℕ) → i < length t → get_or t i 0 ≡ hole
+    → filled (drop i t) ns ≡ decimal (get_or ns 0 0) ++ filled (drop (i + 1) t) (drop 1 ns)
+unfolding filled piece numbers_taken
+filled_hole t ns i h e = rw (add-one, drop-cons t i 0 h, e)
+
+pub filled_byte : (t ns : List ℕ) (i : ℕ) → i < length t → (get_or t i 0 ≡ hole → ⊥)
+    → filled (drop i t) ns ≡ (get_or t i 0 ∷ []) ++ filled (drop (i + 1) t) ns
+unfolding filled piece numbers_taken
+filled_byte t ns i h e = rw (add-one, drop-cons t i 0 h, ne_eqb (get_or t i 0) hole e)
+
+-- the next of the numbers that are left, and those left after it
+pub next_number : (r : Option (Bor ℕ)) (s t : Iter ℕ) → iter_steps s r t
+    → (unwrap_or (option_copied r) 0 ≡ get_or (iter_rest s) 0 0) × (iter_rest t ≡ drop 1 (iter_rest s))
+next_number None s t h = grind (arith, common_steps)
+next_number (Some x) s t h = grind (arith, common_steps)
 
 pub piece_most : (b n : ℕ) → length (piece b n) ≤ most_digits
 unfolding piece

@@ -6,6 +6,7 @@ ghost use Rattle.rows.specs.Reply.{answer_said};
 ghost use Rattle.rows.specs.Row.{over, row_after};
 ghost use Rattle.texts.specs.Text.{decimal, piece, numbers_taken, filled, most_digits, text_room, text_reply};
 
+use itoa::Buffer;
 use rows::{Answer, SHORT_ROW};
 
 pub const HOLE: u8 = b'%';
@@ -15,6 +16,7 @@ pub const MOST_DIGITS: usize = 20;
 
 // The template with its numbers, from the row's start; how many bytes it has. A hole for which no number is left takes 0. A row with
 // less than 20 bytes for each byte of the template is refused with 4.
+#[tactic(auto, unfolding(crate::specs::Text::text_reply))]
 pub fn write_text(template: &[u8], numbers: &[u64], row: &mut [u8]) -> Answer
     ensures value { answer_said result ≡ text_reply template.now numbers.now (length row.old) }
     ensures writes { row.new ≡ row_after (text_reply template.now numbers.now (length row.old)) (filled template.now numbers.now) row.old }
@@ -32,53 +34,28 @@ pub fn fill(template: &[u8], numbers: &[u64], row: &mut [u8]) -> usize
     ensures writes { row.new ≡ over (filled template.now numbers.now) row.old }
 {
     let mut used: usize = 0;
-    let mut next: usize = 0;
-    let mut i: usize = 0;
-    while i < template.len() {
-        let b = template[i];
-        used += put_piece(b, number_at(numbers, next), &mut row[used..]);
-        next += numbers_taken(b);
-        i += 1;
+    let mut left = numbers.iter();
+    for &b in template {
+        if b == HOLE {
+            used += put_number(left.next().copied().unwrap_or(0), &mut row[used..]);
+        } else {
+            row[used] = b;
+            used += 1;
+        }
     }
     used
 }
 
-// What a byte of a template stands for, where n is the next number.
-fn put_piece(b: u8, n: u64, row: &mut [u8]) -> usize
-    requires { most_digits ≤ length row.old }
-    ensures within { result ≤ most_digits }
-    ensures value { result ≡ length (piece b n) }
-    ensures writes { row.new ≡ over (piece b n) row.old }
-{
-    if b == HOLE {
-        return put_number(n, row);
-    }
-    row[0] = b;
-    1
-}
-
-fn numbers_taken(b: u8) -> usize
-    ensures value { result ≡ numbers_taken b }
-    ensures within { result ≤ 1 }
-{
-    if b == HOLE { 1 } else { 0 }
-}
-
-fn number_at(numbers: &[u64], i: usize) -> u64
-    ensures { result ≡ get_or numbers.now i 0 }
-{
-    if i < numbers.len() { numbers[i] } else { 0 }
-}
-
 // A number in decimal.
+#[tactic(auto, using(crate::proofs::DecimalLaws::decimal_written, rows::proofs::Row::over_is))]
 fn put_number(n: u64, row: &mut [u8]) -> usize
     requires { most_digits ≤ length row.old }
     ensures within { result ≤ most_digits }
     ensures value { result ≡ length (decimal n) }
     ensures writes { row.new ≡ over (decimal n) row.old }
 {
-    let mut digits = [0u8; MOST_DIGITS];
-    let k = io::decimal(n, &mut digits);
-    row[..k].copy_from_slice(&digits[..k]);
-    k
+    let mut buffer = Buffer::new();
+    let digits = buffer.format(n).as_bytes();
+    row[..digits.len()].copy_from_slice(digits);
+    digits.len()
 }

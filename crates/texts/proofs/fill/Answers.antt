@@ -1,56 +1,73 @@
 -- `texts::fill` meets its contract. Assumes nothing.
-use Rattle.std.proofs.Common.{◌≡◌, ◌∙◌, refl, sym, ap, ℕ, ◌+◌, ◌-◌, ◌≤◌, List, [], ◌++◌, length, get_or, take, drop, length-take-le, arith}
+use Rattle.std.proofs.Common.{◌≡◌, ◌∙◌, refl, sym, ap, ℕ, ◌+◌, ◌≤◌, List, [], ◌∷◌, ◌++◌, ◌<◌, length, get_or, set, take, drop, length-take-le, length-append, append_assoc, arith}
 use mathlib.Core.List.{append-nil}
-use borrow.Rule.Slice.PartMut.{same_len_mid}
 use lib.Seq.{drop-length}
+use Rattle.std.specs.Slice.Iter.{iter_rest}
 use Rattle.rows.specs.Row.{over}
-use Rattle.rows.proofs.Row.{over_is, more_written}
-use Rattle.texts.specs.Text.{piece, filled}
-use Rattle.texts.proofs.TextLaws.{filled_step}
+use Rattle.rows.proofs.Row.{over_is, put, written, more_written}
+use Rattle.texts.specs.Text.{decimal, filled}
+use Rattle.texts.proofs.TextLaws.{filled_hole, filled_byte, next_number}
 use Rattle.texts.proofs.fill.Goals as goal
+use Rattle.texts.proofs.fill.Goals.{then-b-eq-HOLE, else-b-eq-HOLE}
 
-pub loop-i-init : goal.loop-i-init
-loop-i-init c = (omega arith, omega arith, omega arith, refl, refl, sym (over_is [] _))
+pub loop-b-init : goal.loop-b-init
+loop-b-init c = (omega arith, rw c.iter-left.ensures.rest refl, sym (over_is [] _))
 
-pub loop-i-preserved : goal.loop-i-preserved
-loop-i-preserved c =
-    let put = c.put_piece-used in
-    let got = c.number_at in
+-- one byte is put where a part of a whole ends
+module _ (all left row now : List ℕ) (b used : ℕ) (long : length now ≡ length row) (fits : used < length now)
+    (whole : all ≡ take used now ++ ((b ∷ []) ++ left)) (held : now ≡ over (take used now) row) where
+  put_row : set now used b ≡ over (take used now ++ (b ∷ [])) row
+  put_row = put (take used now) row now b used held (length-take-le used now (omega arith)) (omega arith)
+
+  put_taken : take (used + 1) (set now used b) ≡ take used now ++ (b ∷ [])
+  put_taken =
+      written (take used now ++ (b ∷ [])) row (set now used b) (used + 1)
+      (omega (arith, length-append (take used now) (b ∷ []), length-take-le used now (omega arith))) put_row
+
+  more_put : (all ≡ take (used + 1) (set now used b) ++ left) × (set now used b ≡ over (take (used + 1) (set now used b)) row)
+  more_put = (
+    whole ∙ sym (append_assoc (take used now) (b ∷ []) left) ∙ ap (λ (l : List ℕ). l ++ left) (sym put_taken),
+    put_row ∙ ap (λ (l : List ℕ). over l row) (sym put_taken),
+  )
+
+pub loop-b-preserved : goal.loop-b-preserved
+loop-b-preserved c =
     let t = c.args.template.now in
-    let ns = c.args.numbers.now in
-    let row = c.loop-i.row in
-    let used : ℕ = c.loop-i.used in
-    let i : ℕ = c.loop-i.i in
-    let j : ℕ = c.loop-i.next in
-    let taken = c.numbers_taken-next in
-    let e =
-    more_written (filled t ns) (piece (get_or t i 0) got.result) (filled (drop (i + 1) t) (drop (j + taken.result) ns)) c.args.row.now row
-    put.new.row used put.result (omega arith)
-    (c.loop-i.invariant.4 ∙ ap (λ (l : List ℕ). take used row ++ l) (rw (got.ensures, taken.ensures.value) (filled_step t ns i j (omega arith))))
-    c.loop-i.invariant.5 put.ensures.value put.ensures.writes in (
-      omega arith,
-      omega (arith, taken.ensures.within),
-      omega (arith, put.ensures.within),
-      same_len_mid {X = ℕ} used (length row - used) row put.new.row put.auto.row ∙ c.loop-i.invariant.3,
-      e.0,
-      e.1,
-    )
+    let row = c.loop-b.row in
+    let i : ℕ = c.loop-b.b-index in
+    let more : i < length t = omega arith in
+    elim c.if-b-eq-HOLE.branch [
+      | then-b-eq-HOLE w ↦
+          let n = next_number w.next.result c.loop-b.left w.next.new.self w.next.ensures.steps in
+          let number : w.unwrap_or.result ≡ get_or (iter_rest c.loop-b.left) 0 0 = w.unwrap_or.ensures ∙ rw w.copied.ensures n.0 in
+          let e = more_written (filled t c.args.numbers.now) (decimal w.unwrap_or.result) (filled (drop (i + 1) t) (iter_rest w.next.new.self)) c.args.row.now row
+          w.put_number-used.new.row c.loop-b.used w.put_number-used.result (omega arith)
+          (c.loop-b.invariant.1 ∙ ap (λ (l : List ℕ). take c.loop-b.used row ++ l) (rw (number, n.1) (filled_hole t (iter_rest c.loop-b.left) i more w.if-b-eq-HOLE.true)))
+          c.loop-b.invariant.2 w.put_number-used.ensures.value w.put_number-used.ensures.writes in
+          rw (w.row-is, w.used-is, w.left-is) (omega (arith, w.put_number-used.ensures.within), e.0, e.1)
+      | else-b-eq-HOLE w ↦
+          let e = more_put (filled t c.args.numbers.now) (filled (drop (i + 1) t) (iter_rest c.loop-b.left)) c.args.row.now row (get_or t i 0) c.loop-b.used
+          c.loop-b.auto.row (omega arith)
+          (c.loop-b.invariant.1 ∙ ap (λ (l : List ℕ). take c.loop-b.used row ++ l) (filled_byte t (iter_rest c.loop-b.left) i more w.if-b-eq-HOLE.false))
+          c.loop-b.invariant.2 in
+          rw (w.row-is, w.used-is, w.left-is) (omega arith, e.0, e.1)
+    ]
 
 -- all is written where the template has no byte left
-module _ (t ns row : List ℕ) (used next : ℕ) where
-  whole : filled t ns ≡ take used row ++ filled (drop (length t) t) (drop next ns) → filled t ns ≡ take used row
+module _ (t ns left row : List ℕ) (used : ℕ) where
+  whole : filled t ns ≡ take used row ++ filled (drop (length t) t) left → filled t ns ≡ take used row
   unfolding filled
   whole e = e ∙ rw drop-length (append-nil (take used row))
 
 pub returns-clause-value : goal.returns-clause-value
 returns-clause-value c =
-    let all : c.loop-i.i ≡ length c.args.template.now = omega arith in
-    let h : c.loop-i.used ≤ length c.loop-i.row = omega arith in
-    let z = whole _ _ _ _ c.loop-i.next (rw all at c.loop-i.invariant.4) in
+    let all : c.loop-b.b-index ≡ length c.args.template.now = omega arith in
+    let h : c.loop-b.used ≤ length c.loop-b.row = omega arith in
+    let z = whole _ _ _ _ _ (rw all at c.loop-b.invariant.1) in
     sym (ap length z ∙ length-take-le _ _ h)
 
 pub returns-clause-writes : goal.returns-clause-writes
 returns-clause-writes c =
-    let all : c.loop-i.i ≡ length c.args.template.now = omega arith in
-    let z = whole _ _ _ _ c.loop-i.next (rw all at c.loop-i.invariant.4) in
-    c.loop-i.invariant.5 ∙ ap (λ (l : List ℕ). over l c.args.row.now) (sym z)
+    let all : c.loop-b.b-index ≡ length c.args.template.now = omega arith in
+    let z = whole _ _ _ _ _ (rw all at c.loop-b.invariant.1) in
+    c.loop-b.invariant.2 ∙ ap (λ (l : List ℕ). over l c.args.row.now) (sym z)
