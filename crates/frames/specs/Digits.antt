@@ -1,10 +1,8 @@
 -- Hexadecimal digits, both ways: as they are written, by their number, and as they are read.
 -- Assumes nothing.
-use Rattle.std.specs.Prelude.{◌&&◌, List, [], ◌∷◌, ◌++◌, ℕ, zero, suc, ◌+◌, ◌-◌, ◌*◌, ◌/◌, ◌%◌, if◌then◌else◌}
+use Rattle.std.specs.Prelude.{◌&&◌, Option, Some, None, List, [], ◌∷◌, ◌++◌, ℕ, zero, suc, ◌+◌, ◌-◌, ◌*◌, ◌/◌, ◌%◌, if◌then◌else◌}
 use Rattle.rows.specs.Choice.{◌≤?◌, ◌<?◌}
 use Rattle.rows.specs.Reply.{Reply, answer, refused, bad_line}
-use Rattle.frames.specs.declared.Digit.{Digit as DigitCase}
-use Rattle.frames.specs.declared.Digit.TheVariants.{Worth, Nothing}
 
 -- the byte of a digit: 0-9, then A-F
 unfoldable pub digit_byte : ℕ → ℕ
@@ -25,9 +23,9 @@ digit_of b =
     if (48 ≤? b) && (b <? 58) then worth (b - 48) else if (65 ≤? b) && (b <? 71) then worth (b - 55) else no_digit
 
 -- the paper's digit that each case stands for
-abbrev pub digit_said : DigitCase → Digit
-digit_said (Worth v) = worth v
-digit_said Nothing = no_digit
+abbrev pub digit_said : Option ℕ → Digit
+digit_said (Some v) = worth v
+digit_said None = no_digit
 
 -- one digit more of a number
 abbrev pub with_digit : Reply ℕ → Digit → Reply ℕ

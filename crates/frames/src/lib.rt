@@ -24,12 +24,10 @@ pub const DAY_DIGITS: usize = 5;
 pub fn line_len(input: &[u8]) -> usize
     ensures { result ≡ line_length input.now }
 {
-    for (i, b) in input.iter().enumerate() {
-        if *b == LINE_END {
-            return i;
-        }
-    }
-    input.len()
+    input
+        .iter()
+        .position(|b| *b == LINE_END)
+        .unwrap_or(input.len())
 }
 
 // The rest of the input, after a line of n bytes and its line end. It is handed on as it stands.
@@ -97,10 +95,8 @@ fn put_digits(n: u64, w: usize, out: &mut [u8])
     ensures { out.new ≡ over (digits_of w n) out.old }
 {
     let mut high = n;
-    let mut left = w;
-    while 0 < left {
-        left -= 1;
-        out[left] = digit_byte(high % 16);
+    for i in (0..w).rev() {
+        out[i] = digit_byte(high % 16);
         high /= 16;
     }
 }
@@ -122,30 +118,22 @@ fn number_spelled(digits: &[u8]) -> Answer
     ensures { answer_said result ≡ number_spelled digits.now }
 {
     let mut n: u64 = 0;
-    let mut i: usize = 0;
-    while i < digits.len() {
-        let Digit::Worth(v) = digit_of(digits[i]) else {
+    for b in digits {
+        let Some(v) = digit_of(*b) else {
             return Answer::Refused(BAD_LINE);
         };
         n = n * 16 + v;
-        i += 1;
     }
     Answer::Number(n)
 }
 
-#[derive(Clone, Copy)]
-enum Digit {
-    Worth(u64),
-    Nothing,
-}
-
 // What a byte is worth as a digit.
-fn digit_of(b: u8) -> Digit
+fn digit_of(b: u8) -> Option<u64>
     ensures { digit_said result ≡ digit_of b }
 {
     match b {
-        b'0'..=b'9' => Digit::Worth(b as u64 - 48),
-        b'A'..=b'F' => Digit::Worth(b as u64 - 55),
-        _ => Digit::Nothing,
+        b'0'..=b'9' => Some(u64::from(b - b'0')),
+        b'A'..=b'F' => Some(u64::from(b - b'A') + 10),
+        _ => None,
     }
 }

@@ -1,30 +1,18 @@
--- `frames::line_len` meets its contract: where a byte ends the line none of its bytes are left, and any other byte is one of them.
--- Assumes nothing.
-use mathlib.Core.Path.{◌≡◌, ◌∙◌, refl}
-use Prim.Native.Nat.{suc, ◌+◌}
-use native.Mathlib.Omega.{arith}
-use borrow.Author.Tests.{eq-eqb, ne_eqb}
-use lib.ListN.{length, drop}
-use lib.Seq.{drop-length}
-use Rattle.frames.specs.LineEnds.{line_length}
-use Rattle.frames.proofs.LineEndLaws.{length_step}
+-- `frames::line_len` meets its contract. Assumes nothing.
+use Rattle.std.proofs.Common.{◌≡◌, ◌∙◌, ap, rules, ℕ, Option, length}
+use Rattle.std.proofs.lemmas.Iterator.{YieldsList-from_slice}
+use Rattle.std.proofs.lemmas.Iterator.Search.{position_from_yields_List}
+use Rattle.std.specs.Prelude.{position, unwrap_or}
+use borrow.Author.Tests.{tests}
+use Rattle.rows.specs.Choice.{◌=?◌}
+use Rattle.frames.specs.LineEnds.{line_end}
+use Rattle.frames.proofs.LineEndLaws.{length_found}
 use Rattle.frames.proofs.line_len.Goals as goal
 
-pub returns-then-b-eq-LINE_END : goal.returns-then-b-eq-LINE_END
-returns-then-b-eq-LINE_END c =
-    let ends : line_length (drop c.loop-i.i c.args.input.now) ≡ 0 =
-    length_step c.args.input.now c.loop-i.i (omega arith) ∙ simp (eq-eqb _ _ c.if-b-eq-LINE_END.true) in
-    omega (arith, ends)
-
-pub loop-i-preserved : goal.loop-i-preserved
-loop-i-preserved c =
-    let goes_on : line_length (drop c.loop-i.i c.args.input.now) ≡ suc (line_length (drop (c.loop-i.i + 1) c.args.input.now)) =
-    length_step c.args.input.now c.loop-i.i (omega arith) ∙ simp (ne_eqb _ _ c.if-b-eq-LINE_END.false) in
-    omega (arith, goes_on)
-
 pub returns : goal.returns
-unfolding line_length
 returns c =
-    let all : c.loop-i.i ≡ length c.args.input.now = omega arith in
-    let none : line_length (drop c.loop-i.i c.args.input.now) ≡ 0 = rw (all, drop-length) refl in
-    omega (arith, none)
+    let input = c.args.input.now in
+    let place : c.position.result ≡ position (λ b. b =? line_end) input =
+    position_from_yields_List (λ b. b =? line_end) _ _ c.position.result c.position.ensures.ran (YieldsList-from_slice _ c.iter.ensures.rest)
+    (λ x b q k. search (rules, tests)) in
+    c.unwrap_or.ensures ∙ ap (λ (p : Option ℕ). unwrap_or p (length input)) place ∙ length_found input
