@@ -1,6 +1,6 @@
 -- Laws of lines: the first line of an input and what is handed on.
 -- Assumes nothing.
-use Rattle.std.specs.Prelude.{if◌then◌else◌, Option, Some, None, ltb, cond, position, unwrap_or}
+use Rattle.std.specs.Prelude.{if◌then◌else◌, Some, None, ltb, cond, position, unwrap_or}
 use Rattle.std.specs.List.{position_or_len}
 use mathlib.Core.Bool.{Bool, true, false}
 use mathlib.Core.Path.{◌≡◌, refl, sym}

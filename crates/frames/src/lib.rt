@@ -31,6 +31,7 @@ pub fn line_len(input: &[u8]) -> usize
 }
 
 // The rest of the input, after a line of n bytes and its line end. It is handed on as it stands.
+#[tactic(auto, unfolding(crate::specs::LineEnds::rest_after))]
 pub fn rest<'a>(input: &'a [u8], n: usize) -> &'a [u8]
     ensures { result.now ≡ rest_after n input.now }
 {
@@ -42,6 +43,7 @@ pub fn rest<'a>(input: &'a [u8], n: usize) -> &'a [u8]
 }
 
 // The day that a line asks for. A line that is not exactly five digits is refused with 5.
+#[tactic(auto, unfolding(crate::specs::DayLine::day_asked))]
 pub fn day_asked(line: &[u8]) -> Answer
     ensures { answer_said result ≡ day_asked day_digits line.now }
 {
@@ -101,6 +103,7 @@ fn put_digits(n: u64, w: usize, out: &mut [u8])
     }
 }
 
+#[tactic(auto, unfolding(crate::specs::Digits::digit_byte))]
 fn digit_byte(v: u64) -> u8
     requires { v < 16 }
     ensures { result ≡ digit_byte v }
@@ -128,6 +131,7 @@ fn number_spelled(digits: &[u8]) -> Answer
 }
 
 // What a byte is worth as a digit.
+#[tactic(auto, unfolding(crate::specs::Digits::digit_of))]
 fn digit_of(b: u8) -> Option<u64>
     ensures { digit_said result ≡ digit_of b }
 {

@@ -21,46 +21,6 @@ module _ (y n m w f : ℕ) where
   to_length : length (digits_of 3 y ++ digits_of 1 n ++ digits_of 1 m ++ digits_of w f) ≡ 5 + w
   to_length = simp (length-append, length_digits)
 
-pub slice_bounds-put_digits-count : goal.slice_bounds-put_digits-count
-slice_bounds-put_digits-count c =
-    omega arith
-
-pub slice_bounds-put_digits-start : goal.slice_bounds-put_digits-start
-slice_bounds-put_digits-start c =
-    omega arith
-
-pub slice_bounds-put_digits-end : goal.slice_bounds-put_digits-end
-slice_bounds-put_digits-end c =
-    omega arith
-
-pub overflow_add-end : goal.overflow_add-end
-overflow_add-end c =
-    omega arith
-
-pub slice_bounds-put_digits-count-2 : goal.slice_bounds-put_digits-count-2
-slice_bounds-put_digits-count-2 c =
-    omega arith
-
-pub slice_bounds-put_digits-start-2 : goal.slice_bounds-put_digits-start-2
-slice_bounds-put_digits-start-2 c =
-    omega arith
-
-pub slice_bounds-put_digits-end-2 : goal.slice_bounds-put_digits-end-2
-slice_bounds-put_digits-end-2 c =
-    omega arith
-
-pub overflow_add-n : goal.overflow_add-n
-overflow_add-n c =
-    omega arith
-
-pub bounds-out-n : goal.bounds-out-n
-bounds-out-n c =
-    omega arith
-
-pub overflow_add-result : goal.overflow_add-result
-overflow_add-result c =
-    omega arith
-
 pub returns : goal.returns
 unfolding month_line
 returns c =

@@ -2,7 +2,6 @@
 use mathlib.Core.Path.{◌≡◌, ◌∙◌, ap}
 use mathlib.Core.List.{◌++◌}
 use Prim.Native.Nat.{ℕ}
-use native.Mathlib.Omega.{arith}
 use lib.ListN.{length, length-append}
 use Rattle.rows.specs.Row.{over}
 use Rattle.rows.proofs.Row.{grow}
@@ -14,30 +13,6 @@ use Rattle.frames.proofs.put_month_name.Goals as goal
 
 to_mark : (y n : ℕ) → length (digits_of 3 y ++ digits_of 1 n) ≡ 4
 to_mark y n = simp (length-append, length_digits)
-
-pub slice_bounds-put_digits-count : goal.slice_bounds-put_digits-count
-slice_bounds-put_digits-count c =
-    omega arith
-
-pub slice_bounds-put_digits-start : goal.slice_bounds-put_digits-start
-slice_bounds-put_digits-start c =
-    omega arith
-
-pub slice_bounds-put_digits-end : goal.slice_bounds-put_digits-end
-slice_bounds-put_digits-end c =
-    omega arith
-
-pub slice_bounds-put_digits-count-2 : goal.slice_bounds-put_digits-count-2
-slice_bounds-put_digits-count-2 c =
-    omega arith
-
-pub slice_bounds-put_digits-start-2 : goal.slice_bounds-put_digits-start-2
-slice_bounds-put_digits-start-2 c =
-    omega arith
-
-pub slice_bounds-put_digits-end-2 : goal.slice_bounds-put_digits-end-2
-slice_bounds-put_digits-end-2 c =
-    omega arith
 
 pub returns : goal.returns
 returns c =
