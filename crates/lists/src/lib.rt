@@ -79,13 +79,11 @@ fn write_years(n: u64, count: u64, row: &mut [u64]) -> u64
 {
     let mut start = head_span(n);
     let mut months: u64 = 0;
-    let mut k: u64 = 0;
-    while k < count {
+    for year in n..n + count {
         let used = months as usize * RECORD_WIDTH;
-        let end = write_year(n + k, start, &mut row[used..]);
+        let end = write_year(year, start, &mut row[used..]);
         months += end.lunation - start.lunation;
         start = end;
-        k += 1;
     }
     months
 }

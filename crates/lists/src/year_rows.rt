@@ -54,28 +54,17 @@ fn span_after(span: Span) -> Span
     }
 }
 
-// The month's kind goes by the last middle term before its end.
+// The month's kind goes by the last middle term before its end. Its record stands at the row's start.
 fn put_span(span: Span, row: &mut [u64])
     requires { (span ≡ span_of (calendar shoushi) span.lunation) × (span.lunation ≤ last_lunation) × (record_width ≤ length row.old) }
     ensures { row.new ≡ over (record_of (calendar shoushi) span.lunation) row.old }
 {
     let kind = kind_by(span.first, last_term(span.next));
-    put_four(
+    let record = [
         span.first,
         span.next - span.first,
         month_number(kind),
         leap_mark(kind),
-        row,
-    );
-}
-
-// The four numbers of a record, at the row's start.
-fn put_four(first: u64, days: u64, number: u64, mark: u64, row: &mut [u64])
-    requires { record_width ≤ length row.old }
-    ensures { row.new ≡ over (first ∷ days ∷ number ∷ mark ∷ []) row.old }
-{
-    row[FIRST] = first;
-    row[LENGTH] = days;
-    row[NUMBER] = number;
-    row[MARK] = mark;
+    ];
+    row[..RECORD_WIDTH].copy_from_slice(&record);
 }

@@ -1,5 +1,5 @@
--- `lists::write_years` meets its contract: after k turns the lists of k years are written. Assumes nothing.
-use Prim.Native.Nat.{ℕ, ◌+◌, ◌-◌, ◌*◌}
+-- `lists::write_years` meets its contract: before each year the lists of those before it are written. Assumes nothing.
+use Prim.Native.Nat.{ℕ, ◌-◌, ◌*◌}
 use native.Mathlib.Omega.{arith}
 use borrow.Rule.Slice.PartMut.{same_len_mid}
 use lib.ListN.{length, length-take, length-drop}
@@ -16,40 +16,36 @@ use Rattle.lists.proofs.write_years.Goals as goal
 abbrev cal : Calendar
 cal = calendar shoushi
 
-pub loop-k-init : goal.loop-k-init
-loop-k-init c =
-    (omega arith, run_begins cal c.args.n c.args.row.now c.head_span-start.result c.head_span-start.ensures)
+pub loop-year-init : goal.loop-year-init
+loop-year-init c =
+    run_begins cal c.args.n c.args.row.now c.head_span-start.result c.head_span-start.ensures
 
 pub write_year-end-requires : goal.write_year-end-requires
 write_year-end-requires c = (
   omega arith,
-  c.loop-k.invariant.1.right,
+  c.loop-year.invariant.right,
   simp (length-take, length-drop)
-      (omega (arith, run_room cal shoushi_lawful c.loop-k.invariant.1 c.args.count c.loop-k-test.true c.requires.1)),
+      (omega (arith, run_room cal shoushi_lawful c.loop-year.invariant c.args.count c.loop-year-test.true c.requires.1)),
 )
 
 pub overflow_sub-months : goal.overflow_sub-months
 overflow_sub-months c =
-    let n = c.args.n + c.loop-k.k in
-    head_later cal n c.loop-k.start c.write_year-end.result c.loop-k.invariant.1.right c.write_year-end.ensures.value shoushi_lawful
+    head_later cal c.loop-year.year c.loop-year.start c.write_year-end.result c.loop-year.invariant.right c.write_year-end.ensures.value shoushi_lawful
 
 pub overflow_add-months : goal.overflow_add-months
 overflow_add-months c =
-    let n = c.args.n + c.loop-k.k in
     omega (
       arith,
-      run_room cal shoushi_lawful c.loop-k.invariant.1 c.args.count c.loop-k-test.true c.requires.1,
-      months_between cal n c.loop-k.start c.write_year-end.result c.loop-k.invariant.1.right c.write_year-end.ensures.value,
-      months_in_most cal shoushi_lawful n,
+      run_room cal shoushi_lawful c.loop-year.invariant c.args.count c.loop-year-test.true c.requires.1,
+      months_between cal c.loop-year.year c.loop-year.start c.write_year-end.result c.loop-year.invariant.right c.write_year-end.ensures.value,
+      months_in_most cal shoushi_lawful c.loop-year.year,
     )
 
-pub loop-k-preserved : goal.loop-k-preserved
-loop-k-preserved c =
-    let used = c.loop-k.months * record_width in (
-      omega arith,
-      run_goes_on cal shoushi_lawful c.loop-k.invariant.1 c.write_year-end.result c.write_year-end.ensures.value
-          (run_room cal shoushi_lawful c.loop-k.invariant.1 c.args.count c.loop-k-test.true c.requires.1)
-          c.write_year-end.new.row
-          (same_len_mid {X = ℕ} used (length c.loop-k.row - used) c.loop-k.row c.write_year-end.new.row c.write_year-end.auto.row)
-          c.write_year-end.ensures.writes,
-    )
+pub loop-year-preserved : goal.loop-year-preserved
+loop-year-preserved c =
+    let used = c.loop-year.months * record_width in
+    run_goes_on cal shoushi_lawful c.loop-year.invariant c.write_year-end.result c.write_year-end.ensures.value
+    (run_room cal shoushi_lawful c.loop-year.invariant c.args.count c.loop-year-test.true c.requires.1)
+    c.write_year-end.new.row
+    (same_len_mid {X = ℕ} used (length c.loop-year.row - used) c.loop-year.row c.write_year-end.new.row c.write_year-end.auto.row)
+    c.write_year-end.ensures.writes

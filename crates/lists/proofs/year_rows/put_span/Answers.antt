@@ -1,5 +1,10 @@
 -- `lists::put_span` meets its contract: the last middle term before the month's end tells its kind. Assumes nothing.
+use mathlib.Core.List.{List, ◌++◌}
+use mathlib.Core.Path.{ap}
+use Prim.Native.Nat.{ℕ}
 use native.Mathlib.Omega.{arith}
+use lib.ListN.{drop}
+use Rattle.rows.specs.Row.{over}
 use Rattle.measure.specs.Epoch.{shoushi}
 use Rattle.month_law.specs.Calendar.{Calendar}
 use Rattle.edition.specs.Edition.{calendar}
@@ -24,11 +29,13 @@ kind_by-kind-requires c =
       term_small c.args.span.next c.last_term.result (end_small c.args.span c.args.span.lunation c.requires.0 c.requires.1) c.last_term.ensures,
     )
 
-pub overflow_sub-span : goal.overflow_sub-span
-overflow_sub-span c =
+pub overflow_sub-record : goal.overflow_sub-record
+overflow_sub-record c =
     first_before cal c.args.span c.args.span.lunation c.requires.0 shoushi_lawful
 
 pub returns : goal.returns
+unfolding over
 returns c =
-    rw (span_told cal shoushi_lawful c.args.span c.last_term.result c.month_number.result c.leap_mark.result (kind_said c.kind_by-kind.result) c.requires.0
-    c.last_term.ensures c.kind_by-kind.ensures c.month_number.ensures c.leap_mark.ensures) at c.put_four.ensures
+    let told = span_told cal shoushi_lawful c.args.span c.last_term.result c.month_number.result c.leap_mark.result (kind_said c.kind_by-kind.result) c.requires.0
+    c.last_term.ensures c.kind_by-kind.ensures c.month_number.ensures c.leap_mark.ensures in
+    rw (← told) (ap (λ (l : List ℕ). l ++ drop 4 c.args.row.now) c.copy_from_slice.ensures.after)
