@@ -26,6 +26,7 @@ pub const YEAR_NUMBERS: usize = YEAR_ROOM as usize * RECORD_WIDTH;
 
 // The records of year n, from the row's start; how many there are. A year past the last is refused with 1, then a row that is too short
 // with 4.
+#[tactic(auto, using(crate::proofs::Asked::reply_of_one, crate::proofs::Asked::run_of_one))]
 pub fn list(n: u64, row: &mut [u64]) -> Answer
     ensures value { answer_said result ≡ list_reply shoushi n (length row.old / record_width) }
     ensures writes { row.new ≡ row_after (list_reply shoushi n (length row.old / record_width)) (records_of (calendar shoushi) n (months_in (calendar shoushi) n)) row.old }
@@ -46,6 +47,7 @@ pub fn run(n: u64, count: u64, row: &mut [u64]) -> Answer
 }
 
 // Whether a run is answered where a row has room for so many records: its years, or its refusal.
+#[tactic(auto, unfolding(crate::specs::Lists::run_asked))]
 pub fn run_asked(n: u64, count: u64, room: u64) -> Answer
     ensures { answer_said result ≡ run_asked n count room (answer count) }
 {

@@ -34,6 +34,7 @@ pub fn write_year(n: u64, start: Span, row: &mut [u64]) -> Span
     let solstice = middle_day(12 * (n + 1));
     let mut span = start;
     let mut used: usize = 0;
+    // No `for` says it: the solstice ends the list, and not a count of months.
     while span.next <= solstice {
         put_span(span, &mut row[used..]);
         span = span_after(span);
@@ -54,17 +55,26 @@ fn span_after(span: Span) -> Span
     }
 }
 
-// The month's kind goes by the last middle term before its end. Its record stands at the row's start.
-fn put_span(span: Span, row: &mut [u64])
-    requires { (span ≡ span_of (calendar shoushi) span.lunation) × (span.lunation ≤ last_lunation) × (record_width ≤ length row.old) }
-    ensures { row.new ≡ over (record_of (calendar shoushi) span.lunation) row.old }
+// The record of a month: its kind goes by the last middle term before its end.
+#[tactic(auto, using(months::proofs::Spans::first_before, edition::proofs::Edition::shoushi_lawful))]
+pub fn record_of(span: Span) -> [u64; RECORD_WIDTH]
+    requires { (span ≡ span_of (calendar shoushi) span.lunation) × (span.lunation ≤ last_lunation) }
+    ensures { result ≡ record_of (calendar shoushi) span.lunation }
 {
     let kind = kind_by(span.first, last_term(span.next));
-    let record = [
+    [
         span.first,
         span.next - span.first,
         month_number(kind),
         leap_mark(kind),
-    ];
-    row[..RECORD_WIDTH].copy_from_slice(&record);
+    ]
+}
+
+// It stands at the row's start.
+#[tactic(auto, unfolding(rows::specs::Row::over, crate::specs::Records::record_of, crate::specs::Records::record_at))]
+fn put_span(span: Span, row: &mut [u64])
+    requires { (span ≡ span_of (calendar shoushi) span.lunation) × (span.lunation ≤ last_lunation) × (record_width ≤ length row.old) }
+    ensures { row.new ≡ over (record_of (calendar shoushi) span.lunation) row.old }
+{
+    row[..RECORD_WIDTH].copy_from_slice(&record_of(span));
 }

@@ -13,7 +13,10 @@ ghost use Rattle.lists.specs.Records.{record_of, records_of};
 ghost use Rattle.lists.specs.Lists.{run_of, list_reply, run_reply};
 ghost use Rattle.records.specs.MonthRecords.{record_in, in_records, written_in};
 
+use edition::first_day;
+use lists::year_rows::RECORD_WIDTH;
 use measure::LAST_YEAR;
+use months::Span;
 use rows::Answer;
 
 #[derive(Clone, Copy)]
@@ -22,6 +25,21 @@ pub struct MonthRecord {
     pub length: u64,
     pub number: u64,
     pub leap: u64,
+}
+
+impl From<[u64; RECORD_WIDTH]> for MonthRecord {
+    ghost from_gives = { λ numbers month. month ≡ record_in numbers };
+
+    #[tactic(auto, unfolding(crate::specs::MonthRecords::record_in))]
+    fn from(numbers: [u64; RECORD_WIDTH]) -> Self {
+        let [first, length, number, leap] = numbers;
+        MonthRecord {
+            first,
+            length,
+            number,
+            leap,
+        }
+    }
 }
 
 // The records of year n from the row's start; how many there are. A year past the last is refused with 1, then a row that is too short
@@ -43,11 +61,8 @@ pub fn run_records(n: u64, count: u64, row: &mut [MonthRecord]) -> Answer
     let reply = run_reply(n, count, row.len());
     let months = written_in(reply);
     let start = head_for(n);
-    let mut i: usize = 0;
-    while i < months {
-        let month = record_of(start, i);
-        row[i] = month;
-        i += 1;
+    for (i, slot) in row[..months].iter_mut().enumerate() {
+        *slot = record_of(start, i);
     }
     reply
 }
@@ -58,15 +73,12 @@ fn record_of(l: u64, i: usize) -> MonthRecord
     ensures { result ≡ record_in (record_of (calendar shoushi) (l + i)) }
 {
     let month = l + i as u64;
-    let first = edition::first_day(month);
-    let next = edition::first_day(month + 1);
-    let kind = months::kind_by(first, months::last_term(next));
-    MonthRecord {
-        first,
-        length: next - first,
-        number: months::kinds::month_number(kind),
-        leap: months::kinds::leap_mark(kind),
-    }
+    let span = Span {
+        lunation: month,
+        first: first_day(month),
+        next: first_day(month + 1),
+    };
+    MonthRecord::from(lists::year_rows::record_of(span))
 }
 
 // The reply to a run where the row has room for so many records.

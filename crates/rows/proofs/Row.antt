@@ -95,6 +95,15 @@ pub written : {A : Type 0} (new row now : List A) (u : ℕ) → length new ≡ u
 unfolding over
 written new row now u e h = ap (take u) h ∙ take_at new (drop (length new) row) u e
 
+-- what is written over a row's front is, with the rest after it, written over the row
+pub front_over : {A : Type 0} (new row front : List A) (k : ℕ) → front ≡ over new (take k row) → length new ≡ k → k ≤ length row
+    → front ++ drop k row ≡ over new row
+unfolding over
+front_over new row front k e long room =
+    let none : drop (length new) (take k row) ≡ [] =
+    ap (λ (n : ℕ). drop n (take k row)) (long ∙ sym (length-take-le k row room)) ∙ drop-length (take k row) in
+    rw (e, none, append-nil) (ap (λ (n : ℕ). new ++ drop n row) (sym long))
+
 -- a part of a whole is written into a row that holds what of the whole comes before it
 pub more_written : {A : Type 0} (all more left row now part : List A) (used r : ℕ) → used ≤ length now → all ≡ take used now ++ (more ++ left)
     → now ≡ over (take used now) row → r ≡ length more → part ≡ over more (rest_from used now)

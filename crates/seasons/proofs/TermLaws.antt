@@ -3,18 +3,18 @@
 -- Assumes nothing.
 use mathlib.Core.Bool.{true, false}
 use mathlib.Core.Logic.{◌⊎◌, inl, inr}
-use mathlib.Core.Path.{◌≡◌, ◌∙◌, refl, ap}
+use mathlib.Core.Path.{◌≡◌, refl, ap}
 use Prim.Native.Nat.{ℕ, ◌+◌, ◌*◌, ◌≤◌, ◌<◌}
 use native.Mathlib.Omega.{arith}
 use borrow.Author.Tests.{ne_eqb, lt-ltb, le-ltb}
-use mathlib.Core.List.{List, [], ◌++◌, append-nil}
+use mathlib.Core.List.{List, ◌++◌}
 use lib.ListN.{length, take, drop}
-use lib.Seq.{drop-length, length-take-le}
+use lib.Seq.{length-take-le}
 use Rattle.rows.specs.Choice.{◌<?◌}
 use Rattle.rows.specs.Row.{listed, over}
 use Rattle.rows.specs.Reply.{Reply, answer, refused, no_year, short_row}
 use Rattle.rows.proofs.Choice.{refuse_cases}
-use Rattle.rows.proofs.Row.{length_listed}
+use Rattle.rows.proofs.Row.{length_listed, front_over}
 use Rattle.measure.specs.Units.{term_step, last_year}
 use Rattle.measure.specs.Epoch.{Epoch, shoushi}
 use Rattle.seasons.specs.Solstice.{solstice}
@@ -81,13 +81,9 @@ front_length row room = length-take-le terms row room
 -- where the first of them are written over a row's front of just their number, all are over the row
 pub terms_written : (n i : ℕ) (row front : List ℕ) → front ≡ over (listed (term shoushi n) 0 i) (take terms row) → i ≡ terms → terms ≤ length row
     → front ++ drop terms row ≡ over (term_list shoushi n) row
-unfolding over term_list
+unfolding term_list
 terms_written n i row front e all room =
-    let long : length (listed (term shoushi n) 0 i) ≡ length (take terms row) =
-    omega (arith, length_listed (term shoushi n) 0 i, front_length row room) in
-    let none : drop (length (listed (term shoushi n) 0 i)) (take terms row) ≡ [] =
-    ap (λ (k : ℕ). drop k (take terms row)) long ∙ drop-length (take terms row) in
-    rw (e, none, append-nil, all, length_listed) refl
+    front_over (term_list shoushi n) row front terms (rw all at e) (terms_length shoushi n) room
 
 -- the four terms before which earth rules, as a program's cases tell them
 abbrev pub OneOfFour : ℕ → Type 0
