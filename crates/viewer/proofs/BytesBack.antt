@@ -1,24 +1,18 @@
 -- A row of numbers is read back from its bytes as it was: no place of a number is lost.
 -- Assumes nothing.
 use mathlib.Core.List.{List, [], ◌∷◌, ◌++◌}
-use mathlib.Core.Path.{◌≡◌, refl, sym, ap₂}
+use mathlib.Core.Path.{◌≡◌, refl, ap₂}
 use Prim.Native.Nat.{ℕ, ◌+◌, ◌*◌, ◌/◌, ◌%◌, ◌<◌}
-use native.Mathlib.Nat.{div-div-eq-div-mul}
 use native.Mathlib.Omega.{arith}
+use Rattle.std.proofs.lemmas.Nat.{from_le_bytes-to_le_bytes_4}
 use Rattle.viewer.specs.Bytes.{low_first, low_first_bytes}
 
 -- the number that four bytes say, low byte first
 abbrev joined : ℕ → ℕ → ℕ → ℕ → ℕ
 joined a b c d = a + 256 * b + 65_536 * c + 16_777_216 * d
 
-by_quotients : (n a b c : ℕ) → a ≡ n / 256 → b ≡ a / 256 → c ≡ b / 256 → n < 4_294_967_296
-    → joined (n % 256) (a % 256) (b % 256) (c % 256) ≡ n
-by_quotients n a b c ea eb ec h = let small : c < 256 = omega arith in omega arith
-
 joined_back : (n : ℕ) → n < 4_294_967_296 → joined (n % 256) (n / 256 % 256) (n / 65_536 % 256) (n / 16_777_216 % 256) ≡ n
-joined_back n h =
-    by_quotients n (n / 256) (n / 65_536) (n / 16_777_216) refl (sym (div-div-eq-div-mul n 256 256))
-    (sym (div-div-eq-div-mul n 65_536 256)) h
+joined_back n h = omega (arith, from_le_bytes-to_le_bytes_4 n h)
 
 -- the numbers that a row of bytes says, four bytes each
 unfoldable pub numbers_read : List ℕ → List ℕ

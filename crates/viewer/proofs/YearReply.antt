@@ -6,7 +6,7 @@ use mathlib.Core.Path.{◌≡◌, ◌∙◌, sym, ap}
 use Prim.Native.Nat.{ℕ, ◌*◌, ◌≤◌, ◌<◌}
 use native.Mathlib.Omega.{arith}
 use lib.ListN.{length, take, drop}
-use lib.Seq.{take_at}
+use lib.Seq.{take_at, length-take-le}
 use Rattle.rows.specs.Reply.{answer, refused, no_year, short_row, answer_said}
 use Rattle.rows.specs.Row.{over, row_after}
 use Rattle.measure.specs.Units.{last_year}
@@ -43,6 +43,9 @@ module _ (n k : ℕ) (got : Answer) (ensured : answer_said got ≡ list_reply sh
 
   pub count_most : k ≤ year_room
   count_most = omega (arith, counted, months_in_most c shoushi_lawful n)
+
+  pub numbers_long : (now : List ℕ) → length now ≡ year_room * record_width → length (take (k * record_width) now) ≡ k * record_width
+  numbers_long now e = length-take-le (k * record_width) now (omega (arith, count_most))
 
   pub short_refused : (room : ℕ) → room < year_room → list_reply shoushi n room ≡ refused short_row
   short_refused room h = list_short shoushi n room admitted h

@@ -23,6 +23,7 @@ use months::{Month, MonthAnswer};
 use rows::{Answer, SHORT_ROW};
 
 // A reply about a day. In a month, refused is 0; a refusal has its number there and 0 in every other field. No month has length 0.
+// The viewer, which reads it, is in C: there the flag stands beside the month.
 #[repr(C)]
 #[derive(Clone, Copy)]
 pub struct Day {
@@ -36,7 +37,7 @@ pub struct Day {
     pub refused: u8,
 }
 
-// How many records were written. Where the question is refused, its number stands in refused and no record was written.
+// How many records were written. Where the question is refused, its number stands in refused and no record was written. It is read in C too.
 #[repr(C)]
 #[derive(Clone, Copy)]
 pub struct Count {
@@ -56,6 +57,7 @@ pub fn lengadriu_day(d: u64) -> Day
 
 // The records of year n as bytes, from the row's start; how many there are. A year past the last is refused with 1, then a row without
 // room for 13 records with 4.
+#[tactic(auto, using(crate::proofs::YearReply::count_most, crate::proofs::YearReply::numbers_long, crate::proofs::YearReply::year_refused))]
 pub fn lengadriu_year(row: &mut [u8], n: u64) -> Count
     ensures value { result ≡ count_told (list_reply shoushi n (room_in row.old)) }
     ensures writes { row.new ≡ row_after (list_reply shoushi n (room_in row.old)) (low_first_bytes (records_of (calendar shoushi) n (months_in (calendar shoushi) n))) row.old }
@@ -66,7 +68,7 @@ pub fn lengadriu_year(row: &mut [u8], n: u64) -> Count
             if row.len() / RECORD_BYTES < YEAR_ROOM as usize {
                 return count_refused(SHORT_ROW);
             }
-            put_numbers(&numbers, records as usize * RECORD_WIDTH, row);
+            put_numbers(&numbers[..records as usize * RECORD_WIDTH], row);
             Count {
                 refused: 0,
                 records: records as u32,

@@ -4,12 +4,11 @@
 use mathlib.Core.List.{List}
 use mathlib.Core.Path.{◌∙◌, sym, ap}
 use Prim.Native.Nat.{ℕ}
-use native.Mathlib.Omega.{arith}
 use Rattle.rows.specs.Row.{over}
 use Rattle.viewer.specs.Bytes.{low_first_bytes}
 use Rattle.viewer.specs.Room.{room_in}
 use Rattle.viewer.specs.Told.{count_told}
-use Rattle.viewer.proofs.YearReply.{count_most, short_refused, long_answered, numbers_given, year_refused, refused_in_any}
+use Rattle.viewer.proofs.YearReply.{short_refused, long_answered, numbers_given, refused_in_any}
 use Rattle.viewer.proofs.lengadriu_year.Goals as goal
 
 pub returns-then-row : goal.returns-then-row
@@ -19,23 +18,6 @@ returns-then-row c =
     short_refused c.args.n _ c.list.result c.list.ensures.value c.in-Number.is (room_in c.args.row.now)
     c.if-row.true in
     record { value = c.count_refused.ensures ∙ ap count_told (sym reply); writes = rw reply }
-
-pub overflow_mul-records : goal.overflow_mul-records
-overflow_mul-records c =
-    omega (arith, count_most c.args.n c.in-Number.records c.list.result c.list.ensures.value c.in-Number.is)
-
-pub put_numbers-requires : goal.put_numbers-requires
-put_numbers-requires c =
-    let few = count_most c.args.n c.in-Number.records c.list.result c.list.ensures.value c.in-Number.is in
-    (omega (arith, few, c.list.auto.row), omega (arith, few, c.if-row.false))
-
-pub overflow_cast-result : goal.overflow_cast-result
-overflow_cast-result c =
-    omega (arith, count_most c.args.n c.in-Number.records c.list.result c.list.ensures.value c.in-Number.is)
-
-pub count_refused-requires-in-Refused : goal.count_refused-requires-in-Refused
-count_refused-requires-in-Refused c =
-    omega (arith, year_refused c.args.n c.in-Refused.k c.list.result c.list.ensures.value c.in-Refused.is)
 
 pub returns-else-row : goal.returns-else-row
 unfolding room_in
