@@ -1,4 +1,3 @@
-pub mod LineTextLaws
 pub mod ListTextLaws
 pub mod ReplyLaws
 pub mod Unique

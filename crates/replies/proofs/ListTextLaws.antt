@@ -1,15 +1,15 @@
--- Laws of the lines of lists: one item more, the line end, and none; and the room that a list's line has.
+-- Laws of the lines of lists: what is written is the text, one item more, the line end, and none; and the room that a list's line has.
 -- Assumes nothing.
 use mathlib.Core.List.{List, [], ◌∷◌, ◌++◌}
 use mathlib.Core.Path.{◌≡◌, ◌∙◌, refl, sym, ap}
-use Prim.Native.Nat.{ℕ, zero, suc, ◌+◌, ◌*◌, ◌/◌, ◌≤◌, ◌<◌}
+use Prim.Native.Nat.{ℕ, zero, suc, ◌+◌, ◌-◌, ◌*◌, ◌/◌, ◌≤◌, ◌<◌}
 use native.Mathlib.Nat.{mul-zero, mul-suc, mul-pos, mul-div_cancel_left, mul-le-mul_left}
 use native.Mathlib.Numerals.{add-one}
 use native.Mathlib.Omega.{arith}
-use lib.ListN.{length, take, drop, take-append-drop}
-use lib.Seq.{length-take-le}
-use Rattle.rows.specs.Reply.{Reply, answer, refused, answer_said}
-use Rattle.rows.specs.declared.Answer.{Answer}
+use lib.ListN.{length, take, drop, length-drop, take-append-drop}
+use lib.Seq.{length-take-le, take_all, drop_at, drop-drop}
+use Rattle.rows.specs.Reply.{Reply, answer, refused}
+use Rattle.rows.specs.Row.{over}
 use Rattle.lists.specs.Records.{record_width}
 use Rattle.words.specs.Ascii.{bytes_of}
 use Rattle.texts.specs.Text.{piece, numbers_taken, holes, filled}
@@ -18,15 +18,20 @@ use Rattle.questions.specs.DeskReply.{Few}
 use Rattle.replies.specs.LineText.{item_at, items_of, number_item}
 use Rattle.replies.specs.ListText.{items_text, record_item, ItemsTake, HasRoom}
 
+-- what is written is the text
+pub told_so : {new text now : List ℕ} {r : ℕ} (row : List ℕ) → new ≡ text → (r ≡ length new) × (now ≡ over new row)
+    → (r ≡ length text) × (now ≡ over text row)
+told_so row e h = (h.0 ∙ ap length e, h.1 ∙ ap (λ (l : List ℕ). over l row) e)
+
 -- a template takes no more numbers than it has holes
 filled_first : (t ns : List ℕ) (k : ℕ) → holes t ≤ k → k ≤ length ns → filled t ns ≡ filled t (take k ns)
 filled_first t ns k few fits =
     ap (filled t) (sym (take-append-drop k ns)) ∙ filled_enough t (take k ns) (drop k ns) (omega (arith, length-take-le k ns fits))
 
 -- which item is written
-pub first_item : (item : List ℕ) (i : ℕ) → i ≡ 0 → drop 1 item ≡ item_at item i
+pub first_item : (item : List ℕ) (i : ℕ) → i ≡ 0 → take (length item - 1) (drop 1 item) ≡ item_at item i
 unfolding item_at
-first_item item i e = rw e
+first_item item i e = rw e (take_all (length item - 1) (drop 1 item) (omega (arith, length-drop 1 item)))
 
 pub later_item : (item : List ℕ) (i : ℕ) → (i ≡ 0 → ⊥) → item ≡ item_at item i
 unfolding item_at
@@ -65,6 +70,14 @@ module _ (item : List ℕ) (w : ℕ) (takes : ItemsTake item w) where
       (filled_append (items_of item i) (item_at item i) ns
       ∙ ap (λ (j : ℕ). filled (items_of item i) ns ++ filled (item_at item i) (drop j ns)) (items_take i))
 
+  -- the numbers of an item are its own, and those after them the next one's
+  pub own_item : (i : ℕ) (ns own left : List ℕ) → drop (w * i) ns ≡ own ++ left → length own ≡ w
+      → (filled (item_at item i) own ≡ filled (item_at item i) (drop (w * i) ns)) × (left ≡ drop (w * (i + 1)) ns)
+  own_item i ns own left e n = (
+    sym (ap (filled (item_at item i)) e ∙ filled_enough (item_at item i) own left (omega (arith, takes i))),
+    sym (drop_at own left w n) ∙ ap (drop w) (sym e) ∙ drop-drop w (w * i) ns ∙ ap (λ (j : ℕ). drop j ns) (sym (one_more w i)),
+  )
+
   some_items : (l : List ℕ) → 0 < length l → items_text item w l ≡ filled (items_of item (length l / w) ++ bytes_of "\n") l
   unfolding items_text
   some_items [] h = absurd (omega arith)
@@ -91,7 +104,3 @@ no_items item w k ns e = rw (e, mul-zero w)
 pub few_fit : (w each most : ℕ) (r : Reply ℕ) (numbers bytes : ℕ) → Few w most r numbers → each * most + 100 ≤ bytes → HasRoom w each r numbers bytes
 few_fit w each most (answer k) numbers bytes few room = (few.1, omega (arith, mul-le-mul_left each few.0))
 few_fit w each most (refused k) numbers bytes few room = tt
-
-pub case_fits : (w each numbers bytes : ℕ) {a case : Answer} → a ≡ case → HasRoom w each (answer_said a) numbers bytes
-    → HasRoom w each (answer_said case) numbers bytes
-case_fits w each numbers bytes e h = rw e at h

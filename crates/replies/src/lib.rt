@@ -19,6 +19,7 @@ use rows::BAD_LINE;
 use texts::fill;
 
 // The line of an answer, from the row's start; how many bytes it has. Whoever asks has shown that the row has room for it.
+#[tactic(auto, using(crate::proofs::ListTextLaws::few_fit), unfolding(crate::specs::ReplyText::reply_text, crate::specs::ReplyText::room_of))]
 pub fn put_reply(r: DeskAnswer, numbers: &[u64], row: &mut [u8]) -> usize
     requires { (line_room ≤ length row.old) × Lies r (length numbers.now) × (room_of (desk_said r numbers.now) ≤ length row.old) }
     ensures value { result ≡ length (reply_text (desk_said r numbers.now)) }
@@ -42,6 +43,7 @@ pub fn put_reply(r: DeskAnswer, numbers: &[u64], row: &mut [u8]) -> usize
     }
 }
 
+#[tactic(auto, unfolding(crate::specs::ReplyText::constants_text))]
 fn put_constants(row: &mut [u8]) -> usize
     requires { line_room ≤ length row.old }
     ensures value { result ≡ length constants_text }
@@ -75,6 +77,7 @@ fn put_constants(row: &mut [u8]) -> usize
     )
 }
 
+#[tactic(auto, unfolding(crate::specs::ReplyText::help_text, texts::specs::Text::filled, texts::specs::Text::piece, texts::specs::Text::numbers_taken))]
 fn put_help(row: &mut [u8]) -> usize
     requires { line_room ≤ length row.old }
     ensures value { result ≡ length help_text }

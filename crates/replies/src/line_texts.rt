@@ -1,4 +1,6 @@
 // The line of each answer that is no list: a refusal, a number, a running time, a signed number, a month, a name, an hour, days to add.
+#![tactic(auto, unfolding(crate::specs::LineText::item_at, crate::specs::LineText::items_of, crate::specs::LineText::refusal_text, crate::specs::LineText::numbers_text, crate::specs::LineText::days_text, crate::specs::LineText::signed_text, crate::specs::LineText::month_text, crate::specs::LineText::moment_text))]
+
 ghost use Rattle.std.specs.Prelude.{◌≡◌, ◌≤◌, length};
 ghost use Rattle.rows.specs.Reply.{answer_said};
 ghost use Rattle.rows.specs.Row.{over};
@@ -129,6 +131,7 @@ pub(crate) fn put_hour(h: HourAnswer, row: &mut [u8]) -> usize
     }
 }
 
+#[tactic(auto, unfolding(texts::specs::Text::filled, texts::specs::Text::piece, texts::specs::Text::numbers_taken, crate::specs::LineText::item_at, crate::specs::LineText::items_of, crate::specs::LineText::numbers_text, crate::specs::LineText::days_text))]
 pub(crate) fn put_days(d: DaysAnswer, row: &mut [u8]) -> usize
     requires { line_room ≤ length row.old }
     ensures value { result ≡ length (text_of days_text (days_said d)) }

@@ -14,6 +14,7 @@ use rows::Answer;
 use texts::fill;
 
 // So many numbers, or the refusal.
+#[tactic(auto, using(crate::proofs::ListTextLaws::number_takes))]
 pub(crate) fn put_list(a: Answer, numbers: &[u64], row: &mut [u8]) -> usize
     requires { (line_room ≤ length row.old) × HasRoom 1 number_room (answer_said a) (length numbers.now) (length row.old) }
     ensures value { result ≡ length (text_of list_text (list_in 1 (answer_said a) numbers.now)) }
@@ -26,6 +27,7 @@ pub(crate) fn put_list(a: Answer, numbers: &[u64], row: &mut [u8]) -> usize
 }
 
 // So many months, or the refusal.
+#[tactic(auto, using(crate::proofs::ListTextLaws::record_takes))]
 pub(crate) fn put_months(a: Answer, numbers: &[u64], row: &mut [u8]) -> usize
     requires { (line_room ≤ length row.old) × HasRoom record_width record_room (answer_said a) (length numbers.now) (length row.old) }
     ensures value { result ≡ length (text_of records_text (list_in record_width (answer_said a) numbers.now)) }
@@ -40,6 +42,7 @@ pub(crate) fn put_months(a: Answer, numbers: &[u64], row: &mut [u8]) -> usize
 }
 
 // So many items of a template that takes `width` numbers, and the line end; of none it is said that there are none.
+#[tactic(auto, using(crate::proofs::ListTextLaws::no_items), unfolding(texts::specs::Text::filled, texts::specs::Text::piece, texts::specs::Text::numbers_taken))]
 fn put_items(item: &[u8], width: usize, count: usize, numbers: &[u64], row: &mut [u8]) -> usize
     requires { (0 < length item.now) × (0 < width) × ItemsTake item.now width × (width * count ≤ length numbers.now) × (text_room item.now * count + 100 ≤ length row.old) }
     ensures value { result ≡ length (items_text item.now width (take (width * count) numbers.now)) }
@@ -49,18 +52,15 @@ fn put_items(item: &[u8], width: usize, count: usize, numbers: &[u64], row: &mut
         return fill(b"none\n", &[], row);
     }
     let mut used: usize = 0;
-    let mut from: usize = 0;
-    let mut i: usize = 0;
-    while i < count {
-        used += put_item(item, i, &numbers[from..], &mut row[used..]);
-        from += width;
-        i += 1;
+    for (i, own) in numbers.chunks_exact(width).take(count).enumerate() {
+        used += put_item(item, i, own, &mut row[used..]);
     }
     row[used] = b'\n';
     used + 1
 }
 
 // The item at place i of the line: the blank before it is left out at the first.
+#[tactic(auto, using(crate::proofs::ListTextLaws::first_item, crate::proofs::ListTextLaws::later_item, texts::proofs::TextLaws::filled_most))]
 fn put_item(item: &[u8], i: usize, numbers: &[u64], row: &mut [u8]) -> usize
     requires { (0 < length item.now) × (text_room item.now ≤ length row.old) }
     ensures within { result ≤ text_room item.now }
