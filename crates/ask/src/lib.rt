@@ -2,13 +2,13 @@
 // written by `replies`.
 #![tactic(auto)]
 
-ghost use Rattle.std.specs.Prelude.{List, ◌≡◌, ℕ, suc, length};
+ghost use Rattle.std.specs.Prelude.{List, ◌≡◌, ◌≤◌, ℕ, length};
 ghost use Rattle.rows.specs.Row.{row_after};
-ghost use Rattle.measure.specs.Units.{last_year};
 ghost use Rattle.measure.specs.Epoch.{shoushi};
 ghost use Rattle.words.specs.Line.{word_of};
 ghost use Rattle.words.specs.Text.{◌is◌};
 ghost use Rattle.questions.specs.DeskReply.{desk_said, Lies};
+ghost use Rattle.questions.specs.Question.{reply_to};
 ghost use Rattle.replies.specs.ReplyText.{reply_text, room_of};
 ghost use Rattle.ask.specs.AnswerText.{most_numbers, reply_reply, answer_text, answer_reply};
 ghost use Rattle.ask.specs.Written.{written_told};
@@ -25,7 +25,13 @@ pub const SHEET_ROOM: usize = 65_536;
 
 pub const YEARS_ROOM: usize = 2_097_152;
 
+// Room for a number for each year, and for the months of all.
+const YEARS: usize = LAST_YEAR as usize + 1;
+
+const MOST_NUMBERS: usize = YEARS * YEAR_NUMBERS;
+
 // How many bytes of text were written, with refused 0. Where the row has too little room refused is 4, and no byte was written.
+// It is no Result, since C reads it: ask.h.
 #[repr(C)]
 #[derive(Clone, Copy)]
 pub struct Written {
@@ -35,43 +41,39 @@ pub struct Written {
 
 // The text that the desk replies to a line, with its line end, from the row's start; a question that it refuses has a text too. A row without
 // the room that a line asks for is refused with 4.
+#[tactic(auto, using(questions::proofs::Rooms::enough), unfolding(crate::specs::AnswerText::answer_reply, crate::specs::AnswerText::answer_text))]
 pub fn lengadriu_ask(line: &[u8], row: &mut [u8]) -> Written
     ensures value { result ≡ written_told (answer_reply shoushi line.now (length row.old)) }
     ensures writes { row.new ≡ row_after (answer_reply shoushi line.now (length row.old)) (answer_text shoushi line.now) row.old }
 {
     if asks_years(line) {
-        let mut numbers = all_numbers();
-        let answer = questions::ask(line, &mut numbers);
-        return write_reply(answer, &numbers, row);
+        reply_within::<MOST_NUMBERS>(line, row)
+    } else {
+        reply_within::<YEARS>(line, row)
     }
-    let mut numbers = year_numbers();
+}
+
+// The same, where a list has room for so many numbers.
+fn reply_within<const N: usize>(line: &[u8], row: &mut [u8]) -> Written
+    requires { N ≤ most_numbers }
+    ensures value { result ≡ written_told (reply_reply (reply_to shoushi N line.now) (length row.old)) }
+    ensures writes { row.new ≡ row_after (reply_reply (reply_to shoushi N line.now) (length row.old)) (reply_text (reply_to shoushi N line.now)) row.old }
+{
+    let mut numbers = [0; N];
     let answer = questions::ask(line, &mut numbers);
     write_reply(answer, &numbers, row)
 }
 
 // Whether a line may ask for the months of many years: no other list is as long.
+#[tactic(auto, using(words::proofs::Same::same_bytes))]
 fn asks_years(line: &[u8]) -> bool
     ensures { result ≡ (word_of line.now is "years") }
 {
-    check::same(words::word_in(line), b"years")
-}
-
-const YEARS: usize = LAST_YEAR as usize + 1;
-
-// Room for a number for each year, and for the months of all. What they hold does not show, so that no proof spells it out.
-fn year_numbers() -> [u64; YEARS]
-    ensures { suc last_year ≡ length result }
-{
-    [0; YEARS]
-}
-
-fn all_numbers() -> [u64; YEARS * YEAR_NUMBERS]
-    ensures { most_numbers ≡ length result }
-{
-    [0; YEARS * YEAR_NUMBERS]
+    words::word_in(line) == b"years".as_slice()
 }
 
 // An answer's line, where the row has the room that it asks for.
+#[tactic(auto, unfolding(crate::specs::AnswerText::reply_reply))]
 fn write_reply(r: DeskAnswer, numbers: &[u64], row: &mut [u8]) -> Written
     requires { Lies r (length numbers.now) }
     ensures value { result ≡ written_told (reply_reply (desk_said r numbers.now) (length row.old)) }
@@ -91,6 +93,7 @@ fn write_reply(r: DeskAnswer, numbers: &[u64], row: &mut [u8]) -> Written
 }
 
 // The room that an answer's line asks for, whatever its numbers are.
+#[tactic(auto, unfolding(replies::specs::ReplyText::room_of))]
 fn room_for(r: DeskAnswer) -> usize
     ensures { (numbers : List ℕ) → result ≡ room_of (desk_said r numbers) }
 {
