@@ -1,43 +1,47 @@
--- `crate::write_fitting` meets its contract: after n turns the row holds the years below n that fit. Assumes nothing.
-use Rattle.std.proofs.Common.{arith, ◌≡◌, ◌∙◌, ap, sym, ℕ, suc, length, add-one}
-use Rattle.rows.specs.Row.{over}
+-- `crate::write_fitting` meets its contract: before year n the row holds the years below it that fit, and what is read of a year's list is
+-- what the year has. Assumes nothing.
+use Rattle.std.proofs.Common.{arith, ◌≡◌, ◌∙◌, ap, sym, ℕ, ◌-◌, add-one}
 use Rattle.measure.specs.Epoch.{shoushi}
-use Rattle.measure.specs.Units.{last_year}
-use Rattle.month_law.specs.Calendar.{Calendar, head}
+use Rattle.month_law.specs.Calendar.{Calendar, head, months_in}
+use Rattle.month_law.proofs.Lists.{months_in_most}
 use Rattle.edition.specs.Edition.{calendar}
+use Rattle.edition.proofs.Edition.{shoushi_lawful}
 use Rattle.months.specs.Span.{span_of}
-use Rattle.sheets.specs.Marks.{passing}
+use Rattle.months.proofs.Spans.{months_between, head_later}
 use Rattle.sheets.specs.Sheet.{fits_year}
 use Rattle.sheets.proofs.Passing.{found_none, found_yes, found_no}
+use Rattle.sheets.proofs.Read.{fits_read}
 use Rattle.sheets.proofs.write_fitting.Goals as goal
-use Rattle.sheets.proofs.write_fitting.Goals.{then-seen, else-seen}
+use Rattle.sheets.proofs.write_fitting.Goals.{After-write_year-end, then-fits_list, else-fits_list}
 
 abbrev cal : Calendar
 cal = calendar shoushi
 
+-- a year has as many months as lie between its head and the next
+counted : (c : After-write_year-end) → c.write_year-end.result.lunation - c.loop-n.start.lunation ≡ months_in cal c.loop-n.n
+counted c = months_between cal _ _ _ c.loop-n.invariant.0 c.write_year-end.ensures.value
+
 pub loop-n-init : goal.loop-n-init
-loop-n-init c = (omega arith, c.head_span-start.ensures, found_none (fits_year cal c.args.wanted.now) c.args.row.now)
+loop-n-init c = (c.head_span-start.ensures, found_none (fits_year cal c.args.wanted.now) c.args.row.now)
+
+pub overflow_sub-months : goal.overflow_sub-months
+overflow_sub-months c = head_later cal _ _ _ c.loop-n.invariant.0 c.write_year-end.ensures.value shoushi_lawful
+
+pub fits_list-requires : goal.fits_list-requires
+fits_list-requires c =
+    omega (arith, counted (goal.at.fits_list-requires c).After-write_year-end, months_in_most cal shoushi_lawful c.loop-n.n)
 
 pub loop-n-preserved : goal.loop-n-preserved
 loop-n-preserved c =
     let test = fits_year cal c.args.wanted.now in
     let n = c.loop-n.n in
-    let seen = c.year_seen-seen.ensures in
-    let inv = c.loop-n.invariant.2 in (
-      omega arith,
-      seen.0 ∙ ap (λ (m : ℕ). span_of cal (head cal m)) (sym (add-one n)),
-      elim c.if-seen.branch [
-        | then-seen w ↦ rw (w.row-is, w.found-is, add-one n) (found_yes test _ _ _ n inv (sym seen.1 ∙ w.if-seen.true) (omega arith))
-        | else-seen w ↦ rw (w.row-is, w.found-is, add-one n) (found_no test _ _ _ n inv (sym seen.1 ∙ w.if-seen.false))
+    let inv = c.loop-n.invariant.1 in
+    let fits : c.fits_list.result ≡ test n =
+    c.fits_list.ensures
+    ∙ fits_read cal n _ _ c.write_year-end.ensures.writes _ _ (counted (goal.at.loop-n-preserved c).After-write_year-end) in (
+      c.write_year-end.ensures.value ∙ ap (λ (m : ℕ). span_of cal (head cal m)) (sym (add-one n)),
+      elim c.if-fits_list.branch [
+        | then-fits_list w ↦ rw (w.row-is, w.found-is, add-one n) (found_yes test _ _ _ n inv (sym fits ∙ w.if-fits_list.true) (omega arith))
+        | else-fits_list w ↦ rw (w.row-is, w.found-is, add-one n) (found_no test _ _ _ n inv (sym fits ∙ w.if-fits_list.false))
       ],
     )
-
-pub returns-clause-value : goal.returns-clause-value
-returns-clause-value c =
-    let all : c.loop-n.n ≡ suc last_year = omega arith in
-    c.loop-n.invariant.2.counted ∙ ap (λ (n : ℕ). length (passing (fits_year cal c.args.wanted.now) n)) all
-
-pub returns-clause-writes : goal.returns-clause-writes
-returns-clause-writes c =
-    let all : c.loop-n.n ≡ suc last_year = omega arith in
-    c.loop-n.invariant.2.written ∙ ap (λ (n : ℕ). over (passing (fits_year cal c.args.wanted.now) n) c.args.row.now) all
