@@ -3,6 +3,7 @@
 #![tactic(auto)]
 
 ghost use Rattle.std.specs.Prelude.{List, ◌≡◌, ◌≤◌, ℕ, length};
+ghost use Rattle.rows.specs.Reply.{number_of};
 ghost use Rattle.rows.specs.Row.{row_after};
 ghost use Rattle.measure.specs.Epoch.{shoushi};
 ghost use Rattle.words.specs.Line.{word_of};
@@ -16,7 +17,7 @@ ghost use Rattle.ask.specs.Written.{written_told};
 use lists::YEAR_NUMBERS;
 use measure::LAST_YEAR;
 use questions::DeskAnswer;
-use rows::SHORT_ROW;
+use rows::Refusal;
 
 // Room for one line, for the line of a sheet's years, and for the records of all years.
 pub const LINE_ROOM: usize = 16_384;
@@ -74,14 +75,14 @@ fn asks_years(line: &[u8]) -> bool
 
 // An answer's line, where the row has the room that it asks for.
 #[tactic(auto, unfolding(crate::specs::AnswerText::reply_reply))]
-fn write_reply(r: DeskAnswer, numbers: &[u64], row: &mut [u8]) -> Written
-    requires { Lies r (length numbers.now) }
-    ensures value { result ≡ written_told (reply_reply (desk_said r numbers.now) (length row.old)) }
-    ensures writes { row.new ≡ row_after (reply_reply (desk_said r numbers.now) (length row.old)) (reply_text (desk_said r numbers.now)) row.old }
+fn write_reply(r: DeskAnswer<Refusal>, numbers: &[u64], row: &mut [u8]) -> Written
+    requires { Lies number_of r (length numbers.now) }
+    ensures value { result ≡ written_told (reply_reply (desk_said number_of r numbers.now) (length row.old)) }
+    ensures writes { row.new ≡ row_after (reply_reply (desk_said number_of r numbers.now) (length row.old)) (reply_text (desk_said number_of r numbers.now)) row.old }
 {
     if row.len() < room_for(r) {
         return Written {
-            refused: SHORT_ROW,
+            refused: Refusal::ShortRow as u64,
             bytes: 0,
         };
     }
@@ -94,8 +95,8 @@ fn write_reply(r: DeskAnswer, numbers: &[u64], row: &mut [u8]) -> Written
 
 // The room that an answer's line asks for, whatever its numbers are.
 #[tactic(auto, unfolding(replies::specs::ReplyText::room_of))]
-fn room_for(r: DeskAnswer) -> usize
-    ensures { (numbers : List ℕ) → result ≡ room_of (desk_said r numbers) }
+fn room_for(r: DeskAnswer<Refusal>) -> usize
+    ensures { (numbers : List ℕ) → result ≡ room_of (desk_said number_of r numbers) }
 {
     match r {
         DeskAnswer::Years(_) => YEARS_ROOM,

@@ -13,7 +13,7 @@ ghost use Rattle.frames.specs.MonthLine.{shown, Fits, month_digits, month_line, 
 
 use months::Month;
 use months::kinds::{leap_mark, month_number};
-use rows::{Answer, BAD_LINE};
+use rows::Refusal;
 
 pub const LINE_END: u8 = 0x0A;
 
@@ -44,11 +44,11 @@ pub fn rest<'a>(input: &'a [u8], n: usize) -> &'a [u8]
 
 // The day that a line asks for. A line that is not exactly five digits is refused with 5.
 #[tactic(auto, unfolding(crate::specs::DayLine::day_asked))]
-pub fn day_asked(line: &[u8]) -> Answer
+pub fn day_asked(line: &[u8]) -> Result<u64, Refusal>
     ensures { answer_said result ≡ day_asked day_digits line.now }
 {
     if line.len() != DAY_DIGITS {
-        return Answer::Refused(BAD_LINE);
+        return Err(Refusal::BadLine);
     }
     number_spelled(line)
 }
@@ -116,18 +116,18 @@ fn digit_byte(v: u64) -> u8
 }
 
 // The number that digits spell, few enough for 64 bits. A byte that is no digit is refused with 5.
-fn number_spelled(digits: &[u8]) -> Answer
+fn number_spelled(digits: &[u8]) -> Result<u64, Refusal>
     requires { length digits.now ≤ 15 }
     ensures { answer_said result ≡ number_spelled digits.now }
 {
     let mut n: u64 = 0;
     for b in digits {
         let Some(v) = digit_of(*b) else {
-            return Answer::Refused(BAD_LINE);
+            return Err(Refusal::BadLine);
         };
         n = n * 16 + v;
     }
-    Answer::Number(n)
+    Ok(n)
 }
 
 // What a byte is worth as a digit.

@@ -1,27 +1,28 @@
 // The lunar inequality.
 ghost use Rattle.std.specs.Prelude.{◌≡◌, ◌≤◌, ◌<◌};
+ghost use Rattle.rows.specs.Reply.{answer_said};
 ghost use Rattle.measure.specs.Units.{anomalistic_month, anomalistic_half};
-ghost use Rattle.signed.specs.Signed.{integer, as_integer, signed_said};
+ghost use Rattle.signed.specs.Signed.{integer, as_integer};
 ghost use Rattle.inequalities.specs.Limits.{limits, lunar_half_said};
 ghost use Rattle.inequalities.specs.Lunar.{lunar_magnitude, lunar, lunar_at_reply};
 
 use crate::laws::{LAW_MOON, law_at};
 use crate::limits::{LunarHalf, MIDDLE};
 use measure::{ANOMALISTIC_HALF, DAY};
-use rows::OUTSIDE;
-use signed::{SignedAnswer, ahead, behind};
+use rows::Refusal;
+use signed::{ahead, behind};
 
 // The lunar inequality at a time in a half. Half the anomalistic month or more is refused with 2.
 #[tactic(auto, using(signed::proofs::Integers::held_as, crate::proofs::Sizes::magnitude_le), unfolding(crate::specs::Lunar::lunar_at_reply))]
-pub fn lunar_at(half: LunarHalf, time: u64) -> SignedAnswer
-    ensures { signed_said result ≡ as_integer (lunar_at_reply (lunar_half_said half) time) }
+pub fn lunar_at(half: LunarHalf, time: u64) -> Result<i64, Refusal>
+    ensures { answer_said result ≡ as_integer (lunar_at_reply (lunar_half_said half) time) }
 {
     if ANOMALISTIC_HALF <= time {
-        return SignedAnswer::Refused(OUTSIDE);
+        return Err(Refusal::Outside);
     }
     match half {
-        LunarHalf::Quick => SignedAnswer::Number(ahead(magnitude(time))),
-        LunarHalf::Tardy => SignedAnswer::Number(behind(magnitude(time))),
+        LunarHalf::Quick => Ok(ahead(magnitude(time))),
+        LunarHalf::Tardy => Ok(behind(magnitude(time))),
     }
 }
 

@@ -8,18 +8,18 @@ ghost use Rattle.inequalities.specs.Motion.{whole_law, rows, motion_in_row, moti
 use crate::laws::LAW_MOON;
 use crate::limits::{END, LunarHalf, MIDDLE};
 use measure::ANOMALISTIC_HALF;
-use rows::{Answer, OUTSIDE};
+use rows::Refusal;
 
 // The motion in a whole limit of a half. A limit past the last is refused with 2.
-pub fn motion_at(half: LunarHalf, limit: u64) -> Answer
+pub fn motion_at(half: LunarHalf, limit: u64) -> Result<u64, Refusal>
     ensures { answer_said result ≡ motion_at_reply (lunar_half_said half) limit }
 {
     if END <= limit {
-        return Answer::Refused(OUTSIDE);
+        return Err(Refusal::Outside);
     }
     match half {
-        LunarHalf::Quick => Answer::Number(in_row(limit)),
-        LunarHalf::Tardy => Answer::Number(in_row(END + limit)),
+        LunarHalf::Quick => Ok(in_row(limit)),
+        LunarHalf::Tardy => Ok(in_row(END + limit)),
     }
 }
 

@@ -1,13 +1,14 @@
 // The solar inequality.
 ghost use Rattle.std.specs.Prelude.{◌≡◌, ◌≤◌, ◌<◌};
+ghost use Rattle.rows.specs.Reply.{answer_said};
 ghost use Rattle.measure.specs.Units.{year, half_year};
-ghost use Rattle.signed.specs.Signed.{integer, as_integer, signed_said};
+ghost use Rattle.signed.specs.Signed.{integer, as_integer};
 ghost use Rattle.inequalities.specs.Solar.{fast_at, slow_at, solar, solar_at_reply, solar_half_said};
 
 use crate::laws::{LAW_A, LAW_B, law_at};
 use measure::HALF_YEAR;
-use rows::OUTSIDE;
-use signed::{SignedAnswer, ahead, behind};
+use rows::Refusal;
+use signed::{ahead, behind};
 
 // Fast is positive, slow negative.
 #[derive(Clone, Copy)]
@@ -18,15 +19,15 @@ pub enum SolarHalf {
 
 // The solar inequality at a time in a half. The half year or more is refused with 2.
 #[tactic(auto, using(signed::proofs::Integers::held_as, crate::proofs::Sizes::fast_le, crate::proofs::Sizes::slow_le), unfolding(crate::specs::Solar::solar_at_reply))]
-pub fn solar_at(half: SolarHalf, time: u64) -> SignedAnswer
-    ensures { signed_said result ≡ as_integer (solar_at_reply (solar_half_said half) time) }
+pub fn solar_at(half: SolarHalf, time: u64) -> Result<i64, Refusal>
+    ensures { answer_said result ≡ as_integer (solar_at_reply (solar_half_said half) time) }
 {
     if HALF_YEAR <= time {
-        return SignedAnswer::Refused(OUTSIDE);
+        return Err(Refusal::Outside);
     }
     match half {
-        SolarHalf::Fast => SignedAnswer::Number(ahead(fast(time))),
-        SolarHalf::Slow => SignedAnswer::Number(behind(slow(time))),
+        SolarHalf::Fast => Ok(ahead(fast(time))),
+        SolarHalf::Slow => Ok(behind(slow(time))),
     }
 }
 

@@ -7,24 +7,25 @@ ghost use Rattle.std.specs.Prelude.{◌≡◌, ◌*◌, ◌≤◌, length};
 ghost use Rattle.rows.specs.Reply.{answer_said};
 ghost use Rattle.rows.specs.Row.{over, row_after};
 ghost use Rattle.measure.specs.Epoch.{shoushi};
-ghost use Rattle.lines.specs.Line.{reply_line, output, reply_room, output_reply};
+ghost use Rattle.months.specs.Month.{month_answer_said};
+ghost use Rattle.lines.specs.Line.{line_reply, reply_line, output, reply_room, output_reply};
 
 use frames::{DAY_DIGITS, day_asked, line_len, put_month_line, put_refusal_line, rest};
-use months::MonthAnswer;
-use rows::{Answer, BAD_LINE, NO_DAY, SHORT_ROW};
+use months::Month;
+use rows::{Numbered, Refusal};
 
 pub const REPLY_ROOM: usize = 3;
 
 // The replies to all lines of the input, from the row's start; how many bytes they have. A row with less than three bytes for each
 // byte of the input is refused with 4.
-pub fn replies(input: &[u8], out: &mut [u8]) -> Answer
+pub fn replies(input: &[u8], out: &mut [u8]) -> Result<u64, Refusal>
     ensures value { answer_said result ≡ output_reply shoushi input.now (length out.old) }
     ensures writes { out.new ≡ row_after (output_reply shoushi input.now (length out.old)) (output shoushi input.now) out.old }
 {
     if out.len() / REPLY_ROOM < input.len() {
-        return Answer::Refused(SHORT_ROW);
+        return Err(Refusal::ShortRow);
     }
-    Answer::Number(write_replies(input, out) as u64)
+    Ok(write_replies(input, out) as u64)
 }
 
 // A turn for each line: the line is answered, and the rest handed on.
@@ -44,17 +45,21 @@ fn write_replies(input: &[u8], out: &mut [u8]) -> usize
     used
 }
 
+// The month that a line asks for. A malformed line is refused with 5, before a day outside the calendar with 3.
+fn month_asked(line: &[u8]) -> Result<Month, Refusal>
+    ensures { month_answer_said result ≡ line_reply shoushi line.now }
+{
+    months::month_of(day_asked(line)?)
+}
+
 // The reply to one line, at the row's start; how many bytes it has.
 fn put_reply_line(line: &[u8], out: &mut [u8]) -> usize
     requires { length (reply_line shoushi line.now) ≤ length out.old }
     ensures value { result ≡ length (reply_line shoushi line.now) }
     ensures writes { out.new ≡ over (reply_line shoushi line.now) out.old }
 {
-    let Answer::Number(day) = day_asked(line) else {
-        return put_refusal_line(BAD_LINE, out);
-    };
-    let MonthAnswer::Month(month) = months::month_of(day) else {
-        return put_refusal_line(NO_DAY, out);
-    };
-    put_month_line(month, DAY_DIGITS, out)
+    match month_asked(line) {
+        Ok(month) => put_month_line(month, DAY_DIGITS, out),
+        Err(r) => put_refusal_line(r.number(), out),
+    }
 }

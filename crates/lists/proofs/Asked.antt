@@ -11,7 +11,8 @@ use Rattle.rows.specs.Choice.{◌<?◌, ◌=?◌}
 use Rattle.rows.specs.Reply.{Reply, answer, refused, no_year, short_row, answer_said}
 use Rattle.measure.specs.Units.{last_year}
 use Rattle.measure.specs.Epoch.{Epoch}
-use Rattle.rows.specs.declared.Answer.{Answer}
+use Rattle.std.specs.Prelude.{Result}
+use Rattle.rows.specs.declared.Refusal.{Refusal}
 use Rattle.rows.proofs.Choice.{lt_or_ge, refuse_cases}
 use Rattle.month_law.specs.Calendar.{Calendar, months_in}
 use Rattle.edition.specs.Edition.{calendar}
@@ -57,7 +58,7 @@ unfolding list_reply
 list_in_room e n a b h g = rw (le-ltb a year_room h, le-ltb b year_room g)
 
 -- what a reply says, once its case is known
-pub said_as : {reply : Reply ℕ} (got known : Answer) → answer_said got ≡ reply → got ≡ known → answer_said known ≡ reply
+pub said_as : {reply : Reply ℕ} (got known : Result ℕ Refusal) → answer_said got ≡ reply → got ≡ known → answer_said known ≡ reply
 said_as got known says case = sym (ap answer_said case) ∙ says
 
 -- a run is refused whatever its answer would be, or it lies in the admitted years and has room

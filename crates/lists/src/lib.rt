@@ -16,7 +16,7 @@ ghost use Rattle.lists.specs.Lists.{run_of, months_in_run, run_asked, list_reply
 use crate::year_rows::{RECORD_WIDTH, write_year};
 use measure::LAST_YEAR;
 use months::head_span;
-use rows::{Answer, NO_YEAR, SHORT_ROW};
+use rows::Refusal;
 
 // How many records a row needs for each year.
 pub const YEAR_ROOM: u64 = 13;
@@ -27,7 +27,7 @@ pub const YEAR_NUMBERS: usize = YEAR_ROOM as usize * RECORD_WIDTH;
 // The records of year n, from the row's start; how many there are. A year past the last is refused with 1, then a row that is too short
 // with 4.
 #[tactic(auto, using(crate::proofs::Asked::reply_of_one, crate::proofs::Asked::run_of_one))]
-pub fn list(n: u64, row: &mut [u64]) -> Answer
+pub fn list(n: u64, row: &mut [u64]) -> Result<u64, Refusal>
     ensures value { answer_said result ≡ list_reply shoushi n (length row.old / record_width) }
     ensures writes { row.new ≡ row_after (list_reply shoushi n (length row.old / record_width)) (records_of (calendar shoushi) n (months_in (calendar shoushi) n)) row.old }
 {
@@ -36,34 +36,26 @@ pub fn list(n: u64, row: &mut [u64]) -> Answer
 
 // The records of so many years from n on, each list from where the one before it ended; how many there are. A run of no years or past
 // the last is refused with 1, then a row that is too short with 4.
-pub fn run(n: u64, count: u64, row: &mut [u64]) -> Answer
+pub fn run(n: u64, count: u64, row: &mut [u64]) -> Result<u64, Refusal>
     ensures value { answer_said result ≡ run_reply shoushi n count (length row.old / record_width) }
     ensures writes { row.new ≡ row_after (run_reply shoushi n count (length row.old / record_width)) (run_of (calendar shoushi) n count) row.old }
 {
-    match run_asked(n, count, room(row)) {
-        Answer::Refused(k) => Answer::Refused(k),
-        Answer::Number(_) => Answer::Number(write_years(n, count, row)),
-    }
+    run_asked(n, count, room(row))?;
+    Ok(write_years(n, count, row))
 }
 
 // Whether a run is answered where a row has room for so many records: its years, or its refusal.
 #[tactic(auto, unfolding(crate::specs::Lists::run_asked))]
-pub fn run_asked(n: u64, count: u64, room: u64) -> Answer
+pub fn run_asked(n: u64, count: u64, room: u64) -> Result<u64, Refusal>
     ensures { answer_said result ≡ run_asked n count room (answer count) }
 {
-    if count == 0 {
-        return Answer::Refused(NO_YEAR);
-    }
-    if LAST_YEAR < n {
-        return Answer::Refused(NO_YEAR);
-    }
-    if LAST_YEAR + 1 - n < count {
-        return Answer::Refused(NO_YEAR);
+    if count == 0 || LAST_YEAR < n || LAST_YEAR + 1 - n < count {
+        return Err(Refusal::NoYear);
     }
     if room < YEAR_ROOM * count {
-        return Answer::Refused(SHORT_ROW);
+        return Err(Refusal::ShortRow);
     }
-    Answer::Number(count)
+    Ok(count)
 }
 
 // How many records a row has room for.

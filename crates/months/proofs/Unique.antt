@@ -1,19 +1,19 @@
 -- A kind is what it stands for, and each contract determines its reply.
 -- Assumes nothing.
-use mathlib.Core.Path.{◌≡◌, ◌∙◌, refl, sym}
-use Rattle.rows.proofs.Determined.{OneReply, read_back, one_answer}
+use mathlib.Core.Path.{◌≡◌, ◌∙◌, refl, sym, ap}
+use Rattle.rows.proofs.Determined.{OneReply, read_back, one_answer, refusal_of, refusal_back}
 use Rattle.months.specs.Kind.{Kind, ordinary, leap, kind_said}
 use Rattle.months.specs.declared.kinds.Kind.{Kind as KindCase}
 use Rattle.months.specs.declared.kinds.Kind.TheVariants.{Ordinary, Leap}
 use Rattle.months.proofs as own
+use Rattle.std.specs.Prelude.{Result, Ok, Err}
 use Rattle.rows.specs.Reply.{Reply, answer, refused}
+use Rattle.rows.specs.declared.Refusal.{Refusal}
 use Rattle.measure.specs.Epoch.{shoushi}
 use Rattle.edition.specs.Edition.{calendar}
 use Rattle.edition.proofs.Edition.{shoushi_lawful}
 use Rattle.months.specs.Month.{MonthOfDay, month_said, month_answer_said}
 use Rattle.months.specs.declared.Month.{Month}
-use Rattle.months.specs.declared.MonthAnswer.{MonthAnswer}
-use Rattle.months.specs.declared.MonthAnswer.TheVariants.{Month as InMonth, Refused}
 use Rattle.months.proofs.ByTerm.{last_before}
 
 pub kind_meant : Kind → KindCase
@@ -49,14 +49,14 @@ pub month_back : (m : Month) → month_meant (month_said m) ≡ m
 unfolding month_meant
 month_back m = rw (kind_back m.kind)
 
-pub answer_meant : Reply MonthOfDay → MonthAnswer
-answer_meant (answer m) = InMonth (month_meant m)
-answer_meant (refused k) = Refused k
+pub answer_meant : Reply MonthOfDay → Result Month Refusal
+answer_meant (answer m) = Ok (month_meant m)
+answer_meant (refused k) = Err (refusal_of k)
 
-pub answer_back : (r : MonthAnswer) → answer_meant (month_answer_said r) ≡ r
+pub answer_back : (r : Result Month Refusal) → answer_meant (month_answer_said r) ≡ r
 unfolding answer_meant
-answer_back (InMonth m) = rw (month_back m)
-answer_back (Refused k) = refl
+answer_back (Ok m) = rw (month_back m)
+answer_back (Err r) = ap Err (refusal_back r)
 
 pub month_of_unique : OneReply own.month_of.Kinds.ps own.month_of.Kinds.r own.month_of.Reads.Post
 month_of_unique κs a x y s t p q = read_back month_answer_said answer_meant answer_back x y _ p q

@@ -1,15 +1,14 @@
 -- "A reply about a day".
 -- Assumes nothing.
-use Rattle.std.specs.Prelude.{ℕ, ◌+◌, ◌-◌, if◌then◌else◌}
+use Rattle.std.specs.Prelude.{ℕ, ◌+◌, ◌-◌, if◌then◌else◌, Result}
 use Rattle.rows.specs.Choice.{◌<?◌}
-use Rattle.rows.specs.Reply.{Reply, answer, refused, no_day, refuse_if}
+use Rattle.rows.specs.Reply.{Reply, answer, no_day, refuse_if, number_of, reply_of}
 use Rattle.measure.specs.Epoch.{Epoch}
 use Rattle.month_law.specs.Calendar.{Calendar, length_of, month_of, head, year_of, leap_at, number_at}
 use Rattle.edition.specs.Edition.{calendar}
 use Rattle.months.specs.Kind.{Kind, ordinary, leap, kind_said}
+use Rattle.rows.specs.declared.Refusal.{Refusal}
 use Rattle.months.specs.declared.Month.{Month}
-use Rattle.months.specs.declared.MonthAnswer.{MonthAnswer}
-use Rattle.months.specs.declared.MonthAnswer.TheVariants.{Month as InMonth, Refused}
 
 -- the month that a day lies in; places count from 0, days of a month from 1
 pub record MonthOfDay : Type 0 where
@@ -53,7 +52,7 @@ module _ (c : Calendar) where
 unfoldable pub day_reply : Epoch → ℕ → Reply MonthOfDay
 day_reply e d = refuse_if (d <? earliest) no_day (refuse_if (latest <? d) no_day (answer (month_of_day (calendar e) d)))
 
--- the paper's month and reply that each case stands for
+-- the paper's month and reply that each stands for
 abbrev pub month_said : Month → MonthOfDay
 month_said m =
     record {
@@ -65,6 +64,5 @@ month_said m =
       length = m.length;
     }
 
-abbrev pub month_answer_said : MonthAnswer → Reply MonthOfDay
-month_answer_said (InMonth m) = answer (month_said m)
-month_answer_said (Refused k) = refused k
+abbrev pub month_answer_said : Result Month Refusal → Reply MonthOfDay
+month_answer_said a = reply_of month_said number_of a

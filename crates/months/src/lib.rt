@@ -19,7 +19,7 @@ use crate::kinds::Kind;
 use edition::{MIDDLE_STEP, first_day, middle_day};
 use measure::{DAY, LAST_YEAR, MONTH, SOLSTICE_EPOCH};
 use moons::MEAN_START;
-use rows::{Answer, NO_DAY, NO_YEAR};
+use rows::Refusal;
 
 // The month of a day: places count from 0, days of a month from 1.
 #[derive(Clone, Copy)]
@@ -32,37 +32,29 @@ pub struct Month {
     pub length: u64,
 }
 
-#[derive(Clone, Copy)]
-pub enum MonthAnswer {
-    Month(Month),
-    Refused(u64),
-}
-
 const EARLIEST: u64 = 35;
 
 const LATEST: u64 = 365_268;
 
 // The lunation that heads year n. A year past the last is refused with 1.
-pub fn head(n: u64) -> Answer
+pub fn head(n: u64) -> Result<u64, Refusal>
     ensures { answer_said result ≡ head_reply shoushi n }
 {
     if LAST_YEAR < n {
-        return Answer::Refused(NO_YEAR);
+        return Err(Refusal::NoYear);
     }
-    Answer::Number(head_of(n))
+    Ok(head_of(n))
 }
 
 // The month in which a day lies. A day outside the calendar is refused with 3.
-pub fn month_of(d: u64) -> MonthAnswer
+#[tactic(auto, unfolding(crate::specs::Month::day_reply))]
+pub fn month_of(d: u64) -> Result<Month, Refusal>
     ensures { month_answer_said result ≡ day_reply shoushi d }
 {
-    if d < EARLIEST {
-        return MonthAnswer::Refused(NO_DAY);
+    if d < EARLIEST || LATEST < d {
+        return Err(Refusal::NoDay);
     }
-    if LATEST < d {
-        return MonthAnswer::Refused(NO_DAY);
-    }
-    MonthAnswer::Month(month_in(span_of(d), d))
+    Ok(month_in(span_of(d), d))
 }
 
 // A month by its lunation, with its first day and that of the next.
@@ -116,8 +108,7 @@ pub fn head_of(n: u64) -> u64
     requires { n ≤ suc last_year }
     ensures { result ≡ head (calendar shoushi) n }
 {
-    let head = head_span(n);
-    head.lunation
+    head_span(n).lunation
 }
 
 // The head of year n with its days.

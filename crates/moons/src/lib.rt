@@ -6,16 +6,12 @@ ghost use Rattle.rows.specs.Choice.{◌<?◌};
 ghost use Rattle.rows.specs.Reply.{answer_said};
 ghost use Rattle.measure.specs.Units.{year, anomalistic_month};
 ghost use Rattle.measure.specs.Epoch.{shoushi};
-ghost use Rattle.signed.specs.Signed.{integer, as_integer, signed_said};
+ghost use Rattle.signed.specs.Signed.{integer, as_integer};
 ghost use Rattle.moons.specs.Lunation.{last_lunation, last_quarter, Counted, mean, mean_reply, solar_time, anomaly};
 ghost use Rattle.moons.specs.TrueMoon.{correction, correction_of, true_moon, solar_reply, lunar_reply, motion_reply, correction_reply, true_reply};
 
-use measure::{
-    ANOMALISTIC_MONTH, ANOMALY_EPOCH, HALF_YEAR, LEAP_EPOCH, MONTH, QUARTER_STEP, SOLSTICE_EPOCH,
-    YEAR,
-};
-use rows::{Answer, OUTSIDE};
-use signed::SignedAnswer;
+use measure::{ANOMALISTIC_MONTH, ANOMALY_EPOCH, HALF_YEAR, LEAP_EPOCH, MONTH, QUARTER_STEP, SOLSTICE_EPOCH, YEAR};
+use rows::Refusal;
 
 pub const LAST_LUNATION: u64 = 12_367;
 
@@ -24,63 +20,63 @@ const LAST_QUARTER: u64 = 3;
 // Each question below is about quarter q of lunation l, and refused with 2 where one of them is past its last.
 
 // The mean moon's running time.
-pub fn mean(l: u64, q: u64) -> Answer
+pub fn mean(l: u64, q: u64) -> Result<u64, Refusal>
     ensures { answer_said result ≡ mean_reply shoushi l q }
 {
     if outside(l, q) {
-        return Answer::Refused(OUTSIDE);
+        return Err(Refusal::Outside);
     }
-    Answer::Number(mean_time(l, q))
+    Ok(mean_time(l, q))
 }
 
 // The solar inequality.
-pub fn solar(l: u64, q: u64) -> SignedAnswer
-    ensures { signed_said result ≡ as_integer (solar_reply shoushi l q) }
+pub fn solar(l: u64, q: u64) -> Result<i64, Refusal>
+    ensures { answer_said result ≡ as_integer (solar_reply shoushi l q) }
 {
     if outside(l, q) {
-        return SignedAnswer::Refused(OUTSIDE);
+        return Err(Refusal::Outside);
     }
-    SignedAnswer::Number(inequalities::solar::solar(solar_time(l, q)))
+    Ok(inequalities::solar::solar(solar_time(l, q)))
 }
 
 // The lunar inequality.
-pub fn lunar(l: u64, q: u64) -> SignedAnswer
-    ensures { signed_said result ≡ as_integer (lunar_reply shoushi l q) }
+pub fn lunar(l: u64, q: u64) -> Result<i64, Refusal>
+    ensures { answer_said result ≡ as_integer (lunar_reply shoushi l q) }
 {
     if outside(l, q) {
-        return SignedAnswer::Refused(OUTSIDE);
+        return Err(Refusal::Outside);
     }
-    SignedAnswer::Number(inequalities::lunar::lunar(anomaly(l, q)))
+    Ok(inequalities::lunar::lunar(anomaly(l, q)))
 }
 
 // The moon's motion.
-pub fn motion(l: u64, q: u64) -> Answer
+pub fn motion(l: u64, q: u64) -> Result<u64, Refusal>
     ensures { answer_said result ≡ motion_reply shoushi l q }
 {
     if outside(l, q) {
-        return Answer::Refused(OUTSIDE);
+        return Err(Refusal::Outside);
     }
-    Answer::Number(inequalities::motions::motion(anomaly(l, q)))
+    Ok(inequalities::motions::motion(anomaly(l, q)))
 }
 
 // The correction.
-pub fn correction(l: u64, q: u64) -> SignedAnswer
-    ensures { signed_said result ≡ as_integer (correction_reply shoushi l q) }
+pub fn correction(l: u64, q: u64) -> Result<i64, Refusal>
+    ensures { answer_said result ≡ as_integer (correction_reply shoushi l q) }
 {
     if outside(l, q) {
-        return SignedAnswer::Refused(OUTSIDE);
+        return Err(Refusal::Outside);
     }
-    SignedAnswer::Number(correction_of(l, q))
+    Ok(correction_of(l, q))
 }
 
 // The true moon's running time.
-pub fn true_moon(l: u64, q: u64) -> Answer
+pub fn true_moon(l: u64, q: u64) -> Result<u64, Refusal>
     ensures { answer_said result ≡ true_reply shoushi l q }
 {
     if outside(l, q) {
-        return Answer::Refused(OUTSIDE);
+        return Err(Refusal::Outside);
     }
-    Answer::Number(true_time(l, q))
+    Ok(true_time(l, q))
 }
 
 // The true moon's running time, for a caller that counts lunations itself. No question of the calendar's.

@@ -8,26 +8,24 @@ use lib.IntN.{ℤ}
 use lib.ListN.{length}
 use Rattle.rows.specs.Reply.{Reply, answer, refused, answer_said}
 use Rattle.rows.specs.Row.{over, row_after}
-use Rattle.rows.specs.declared.Answer.{Answer}
+use Rattle.std.specs.Prelude.{Option, Result}
+use Rattle.rows.specs.declared.Refusal.{Refusal}
 use Rattle.rows.proofs.Row.{written, over_least}
 use Rattle.measure.specs.Units.{last_year}
 use Rattle.measure.specs.declared.Name.{Name}
-use Rattle.signed.specs.Signed.{signed_said}
-use Rattle.signed.specs.declared.SignedAnswer.{SignedAnswer}
 use Rattle.remainders.specs.Hours.{hour_said}
 use Rattle.remainders.specs.ExtraDays.{Found, days_said}
-use Rattle.remainders.specs.declared.HourAnswer.{HourAnswer}
-use Rattle.remainders.specs.declared.DaysAnswer.{DaysAnswer}
+use Rattle.remainders.specs.declared.Hour.{Hour as HourFound}
 use Rattle.seasons.specs.Terms.{terms as terms_in_year}
 use Rattle.months.specs.Month.{MonthOfDay, month_answer_said}
-use Rattle.months.specs.declared.MonthAnswer.{MonthAnswer}
+use Rattle.months.specs.declared.Month.{Month as MonthFound}
 use Rattle.lists.specs.Records.{record_width, year_room}
 use Rattle.questions.specs.DeskReply.{DeskReply, malformed, number, moment, signed, month, name, hour, days, terms, year, years, sheet, as_list, list_of, list_in, most_records, Few, Answers}
 use Rattle.questions.specs.declared.DeskAnswer.{DeskAnswer}
 use Rattle.questions.specs.declared.DeskAnswer.TheVariants.{Malformed, Number, Moment, Signed, Month, Name as NameOf, Hour, Days, Terms, Year, Years, Sheet}
 
 -- the reply is the same
-pub answers_as : {told reply : DeskReply} {r : DeskAnswer} {before after : List ℕ} → told ≡ reply → Answers told r before after
+pub answers_as : {told reply : DeskReply} {r : DeskAnswer Refusal} {before after : List ℕ} → told ≡ reply → Answers told r before after
     → Answers reply r before after
 answers_as e h = rw e at h
 
@@ -36,19 +34,19 @@ module _ (row : List ℕ) where
   unfolding over
   no_question = record { said = refl; written = refl; lies = tt }
 
-  pub number_answers : (a : Answer) {reply : Reply ℕ} → answer_said a ≡ reply → Answers (number reply) (Number a) row row
+  pub number_answers : (a : Result ℕ Refusal) {reply : Reply ℕ} → answer_said a ≡ reply → Answers (number reply) (Number a) row row
   unfolding over
   number_answers a e = record { said = ap number e; written = refl; lies = tt }
 
-  pub moment_answers : (a : Answer) {reply : Reply ℕ} → answer_said a ≡ reply → Answers (moment reply) (Moment a) row row
+  pub moment_answers : (a : Result ℕ Refusal) {reply : Reply ℕ} → answer_said a ≡ reply → Answers (moment reply) (Moment a) row row
   unfolding over
   moment_answers a e = record { said = ap moment e; written = refl; lies = tt }
 
-  pub signed_answers : (a : SignedAnswer) {reply : Reply ℤ} → signed_said a ≡ reply → Answers (signed reply) (Signed a) row row
+  pub signed_answers : (a : Result ℤ Refusal) {reply : Reply ℤ} → answer_said a ≡ reply → Answers (signed reply) (Signed a) row row
   unfolding over
   signed_answers a e = record { said = ap signed e; written = refl; lies = tt }
 
-  pub month_answers : (a : MonthAnswer) {reply : Reply MonthOfDay} → month_answer_said a ≡ reply → Answers (month reply) (Month a) row row
+  pub month_answers : (a : Result MonthFound Refusal) {reply : Reply MonthOfDay} → month_answer_said a ≡ reply → Answers (month reply) (Month a) row row
   unfolding over
   month_answers a e = record { said = ap month e; written = refl; lies = tt }
 
@@ -56,11 +54,11 @@ module _ (row : List ℕ) where
   unfolding over
   name_answers n e = record { said = ap name e; written = refl; lies = tt }
 
-  pub hour_answers : (a : HourAnswer) {reply : Reply (ℕ × ℕ)} → hour_said a ≡ reply → Answers (hour reply) (Hour a) row row
+  pub hour_answers : (a : Result HourFound Refusal) {reply : Reply (ℕ × ℕ)} → hour_said a ≡ reply → Answers (hour reply) (Hour a) row row
   unfolding over
   hour_answers a e = record { said = ap hour e; written = refl; lies = tt }
 
-  pub days_answers : (a : DaysAnswer) {reply : Reply Found} → days_said a ≡ reply → Answers (days reply) (Days a) row row
+  pub days_answers : (a : Result (Option ℕ) Refusal) {reply : Reply Found} → days_said a ≡ reply → Answers (days reply) (Days a) row row
   unfolding over
   days_answers a e = record { said = ap days e; written = refl; lies = tt }
 
@@ -83,7 +81,7 @@ module _ (list before after : List ℕ) where
   lies_in w most (answer k) long e = ((long k refl).1, omega (arith, (long k refl).0, over_least list before, ap length e))
   lies_in w most (refused k) long e = tt
 
-  module _ (a : Answer) (reply : Reply ℕ) (e : answer_said a ≡ reply) (row : after ≡ row_after reply list before) where
+  module _ (a : Result ℕ Refusal) (reply : Reply ℕ) (e : answer_said a ≡ reply) (row : after ≡ row_after reply list before) where
     held_as : (w most : ℕ) → Long w most reply list → list_in w (answer_said a) after ≡ as_list reply list
     held_as w most long = ap (λ (r : Reply ℕ). list_in w r after) e ∙ in_row w most reply long row
 

@@ -6,7 +6,8 @@ use mathlib.Core.Path.{◌≡◌, ◌∙◌, refl, sym, ap}
 use Prim.Native.Nat.{ℕ}
 use Rattle.rows.specs.Reply.{Reply, answer, refused, bad_line}
 use Rattle.rows.specs.Row.{over}
-use Rattle.rows.specs.declared.Answer.TheVariants.{Refused}
+use Rattle.std.specs.Prelude.{Err}
+use Rattle.rows.specs.declared.Refusal.TheVariants.{BadLine}
 use Rattle.measure.specs.Epoch.{shoushi}
 use Rattle.sheets.specs.Sheet.{fitting, fitting_reply}
 use Rattle.sheets.specs.declared.Mark.{Mark}
@@ -35,6 +36,6 @@ module _ (text : List ℕ) (room : ℕ) (r : SheetRead) (e : r ≡ sheet_read (m
       by (answer marks) f = absurd (false≢true (sym w ∙ ap (λ (x : SheetRead). x.whole) (e ∙ ap sheet_read f)))
       by (refused k) f = ap (λ (j : ℕ). sheet (refused j)) (sym (refused_so text k f))
 
-pub bad_sheet : (row : List ℕ) → Answers (sheet (refused bad_line)) (Sheet (Refused bad_line)) row row
+pub bad_sheet : (row : List ℕ) → Answers (sheet (refused bad_line)) (Sheet (Err BadLine)) row row
 unfolding over
 bad_sheet row = record { said = refl; written = refl; lies = tt }

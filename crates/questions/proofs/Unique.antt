@@ -6,11 +6,10 @@ use native.Mathlib.Omega.{arith}
 use lib.ListN.{length}
 use native.Mathlib.Nat.{mul-div_cancel_left}
 use lib.Seq.{length-take-le}
-use Rattle.rows.specs.Reply.{Reply, answer, refused, answer_said}
-use Rattle.rows.specs.declared.Answer.{Answer}
-use Rattle.rows.specs.declared.Answer.TheVariants.{Number as Counted, Refused}
-use Rattle.rows.proofs.Determined.{OneOutcome, answer_meant, answer_back}
-use Rattle.signed.proofs.Unique.{signed_meant, signed_back}
+use Rattle.rows.specs.Reply.{Reply, answer, refused, number_of, answer_said}
+use Rattle.std.specs.Prelude.{Result, Ok, Err}
+use Rattle.rows.specs.declared.Refusal.{Refusal}
+use Rattle.rows.proofs.Determined.{OneOutcome, refusal_of, refusal_back, answer_meant, answer_back}
 use Rattle.remainders.proofs.Unique.{hour_meant, hour_back, days_meant, days_back}
 use Rattle.months.proofs.Unique.{answer_meant as month_meant, answer_back as month_back}
 use Rattle.lists.specs.Records.{record_width}
@@ -21,21 +20,21 @@ use Rattle.questions.proofs.ask.Kinds as ask
 use Rattle.questions.proofs.ask.Reads as ask_reads
 
 -- a list with w numbers for each, counted
-counted : ℕ → Reply (List ℕ) → Answer
-counted w (answer list) = Counted (length list / w)
-counted w (refused k) = Refused k
+counted : ℕ → Reply (List ℕ) → Result ℕ Refusal
+counted w (answer list) = Ok (length list / w)
+counted w (refused k) = Err (refusal_of k)
 
-counted_back : (w most : ℕ) (a : Answer) (row : List ℕ) → 0 < w → Few w most (answer_said a) (length row) → counted w (list_in w (answer_said a) row) ≡ a
+counted_back : (w most : ℕ) (a : Result ℕ Refusal) (row : List ℕ) → 0 < w → Few w most (answer_said a) (length row) → counted w (list_in w (answer_said a) row) ≡ a
 unfolding counted
-counted_back w most (Counted k) row h few =
-    ap Counted (ap (λ (n : ℕ). n / w) (length-take-le (w * k) row few.1) ∙ mul-div_cancel_left k h)
-counted_back w most (Refused k) row h few = refl
+counted_back w most (Ok k) row h few =
+    ap Ok (ap (λ (n : ℕ). n / w) (length-take-le (w * k) row few.1) ∙ mul-div_cancel_left k h)
+counted_back w most (Err r) row h few = ap Err (refusal_back r)
 
-desk_meant : DeskReply → DeskAnswer
+desk_meant : DeskReply → DeskAnswer Refusal
 desk_meant malformed = Malformed
 desk_meant (number r) = Number (answer_meant r)
 desk_meant (moment r) = Moment (answer_meant r)
-desk_meant (signed r) = Signed (signed_meant r)
+desk_meant (signed r) = Signed (answer_meant r)
 desk_meant (month r) = Month (month_meant r)
 desk_meant (name n) = Name n
 desk_meant (hour r) = Hour (hour_meant r)
@@ -47,12 +46,12 @@ desk_meant (sheet r) = Sheet (counted 1 r)
 desk_meant constants = Constants
 desk_meant help = Help
 
-desk_back : (r : DeskAnswer) (row : List ℕ) → Lies r (length row) → desk_meant (desk_said r row) ≡ r
+desk_back : (r : DeskAnswer Refusal) (row : List ℕ) → Lies number_of r (length row) → desk_meant (desk_said number_of r row) ≡ r
 unfolding desk_meant
 desk_back Malformed row h = refl
 desk_back (Number a) row h = ap Number (answer_back a)
 desk_back (Moment a) row h = ap Moment (answer_back a)
-desk_back (Signed a) row h = ap Signed (signed_back a)
+desk_back (Signed a) row h = ap Signed (answer_back a)
 desk_back (Month a) row h = ap Month (month_back a)
 desk_back (Name n) row h = refl
 desk_back (Hour a) row h = ap Hour (hour_back a)

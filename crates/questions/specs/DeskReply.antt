@@ -2,15 +2,15 @@
 -- holds its numbers.
 -- Assumes nothing.
 use Rattle.std.specs.Prelude.{List, [], ◌≡◌, ℕ, suc, ◌*◌, ◌≤◌, ℤ, length, take}
-use Rattle.rows.specs.Reply.{Reply, answer, refused, answer_said}
+use Rattle.rows.specs.Reply.{Reply, answer, refused, number_of, reply_of, answer_by}
+use Rattle.rows.specs.declared.Refusal.{Refusal}
 use Rattle.rows.specs.Row.{over}
 use Rattle.measure.specs.Units.{last_year}
 use Rattle.measure.specs.declared.Name.{Name}
-use Rattle.signed.specs.Signed.{signed_said}
-use Rattle.remainders.specs.Hours.{hour_said}
-use Rattle.remainders.specs.ExtraDays.{Found, days_said}
+use Rattle.remainders.specs.Hours.{hour_found}
+use Rattle.remainders.specs.ExtraDays.{Found, days_found}
 use Rattle.seasons.specs.Terms.{terms as terms_in_year}
-use Rattle.months.specs.Month.{MonthOfDay, month_answer_said}
+use Rattle.months.specs.Month.{MonthOfDay, month_said}
 use Rattle.lists.specs.Records.{record_width, year_room}
 use Rattle.questions.specs.declared.DeskAnswer.{DeskAnswer}
 use Rattle.questions.specs.declared.DeskAnswer.TheVariants.{Malformed, Number, Moment, Signed, Month, Name as NameOf, Hour, Days, Terms, Year, Years, Sheet, Constants, Help}
@@ -71,22 +71,22 @@ abbrev pub list_in : ℕ → Reply ℕ → List ℕ → Reply (List ℕ)
 list_in w (answer k) row = answer (take (w * k) row)
 list_in w (refused k) row = refused k
 
--- the reply that each case stands for
-abbrev pub desk_said : DeskAnswer → List ℕ → DeskReply
-desk_said Malformed row = malformed
-desk_said (Number a) row = number (answer_said a)
-desk_said (Moment a) row = moment (answer_said a)
-desk_said (Signed a) row = signed (signed_said a)
-desk_said (Month a) row = month (month_answer_said a)
-desk_said (NameOf n) row = name n
-desk_said (Hour h) row = hour (hour_said h)
-desk_said (Days d) row = days (days_said d)
-desk_said (Terms a) row = terms (list_in 1 (answer_said a) row)
-desk_said (Year a) row = year (list_in record_width (answer_said a) row)
-desk_said (Years a) row = years (list_in record_width (answer_said a) row)
-desk_said (Sheet a) row = sheet (list_in 1 (answer_said a) row)
-desk_said Constants row = constants
-desk_said Help row = help
+-- the reply that each case stands for, where each refusal has its number
+abbrev pub desk_said : {R : Type 0} → (R → ℕ) → DeskAnswer R → List ℕ → DeskReply
+desk_said k Malformed row = malformed
+desk_said k (Number a) row = number (answer_by k a)
+desk_said k (Moment a) row = moment (answer_by k a)
+desk_said k (Signed a) row = signed (answer_by k a)
+desk_said k (Month a) row = month (reply_of month_said k a)
+desk_said k (NameOf n) row = name n
+desk_said k (Hour h) row = hour (reply_of hour_found k h)
+desk_said k (Days d) row = days (reply_of days_found k d)
+desk_said k (Terms a) row = terms (list_in 1 (answer_by k a) row)
+desk_said k (Year a) row = year (list_in record_width (answer_by k a) row)
+desk_said k (Years a) row = years (list_in record_width (answer_by k a) row)
+desk_said k (Sheet a) row = sheet (list_in 1 (answer_by k a) row)
+desk_said k Constants row = constants
+desk_said k Help row = help
 
 -- how many records all years have at most
 abbrev pub most_records : ℕ
@@ -97,24 +97,24 @@ abbrev pub Few : ℕ → ℕ → Reply ℕ → ℕ → Type 0
 Few w most (answer k) room = (k ≤ most) × (w * k ≤ room)
 Few w most (refused k) room = Unit {0}
 
-abbrev pub Lies : DeskAnswer → ℕ → Type 0
-Lies Malformed room = Unit {0}
-Lies (Number a) room = Unit {0}
-Lies (Moment a) room = Unit {0}
-Lies (Signed a) room = Unit {0}
-Lies (Month a) room = Unit {0}
-Lies (NameOf n) room = Unit {0}
-Lies (Hour h) room = Unit {0}
-Lies (Days d) room = Unit {0}
-Lies (Terms a) room = Few 1 terms_in_year (answer_said a) room
-Lies (Year a) room = Few record_width year_room (answer_said a) room
-Lies (Years a) room = Few record_width most_records (answer_said a) room
-Lies (Sheet a) room = Few 1 (suc last_year) (answer_said a) room
-Lies Constants room = Unit {0}
-Lies Help room = Unit {0}
+abbrev pub Lies : {R : Type 0} → (R → ℕ) → DeskAnswer R → ℕ → Type 0
+Lies k Malformed room = Unit {0}
+Lies k (Number a) room = Unit {0}
+Lies k (Moment a) room = Unit {0}
+Lies k (Signed a) room = Unit {0}
+Lies k (Month a) room = Unit {0}
+Lies k (NameOf n) room = Unit {0}
+Lies k (Hour h) room = Unit {0}
+Lies k (Days d) room = Unit {0}
+Lies k (Terms a) room = Few 1 terms_in_year (answer_by k a) room
+Lies k (Year a) room = Few record_width year_room (answer_by k a) room
+Lies k (Years a) room = Few record_width most_records (answer_by k a) room
+Lies k (Sheet a) room = Few 1 (suc last_year) (answer_by k a) room
+Lies k Constants room = Unit {0}
+Lies k Help room = Unit {0}
 
 -- an answer says a reply, with a row as it was and as it is
-pub record Answers (reply : DeskReply) (r : DeskAnswer) (before after : List ℕ) : Type 0 where
-  pub said : desk_said r after ≡ reply
+pub record Answers (reply : DeskReply) (r : DeskAnswer Refusal) (before after : List ℕ) : Type 0 where
+  pub said : desk_said number_of r after ≡ reply
   pub written : after ≡ over (numbers_for reply) before
-  pub lies : Lies r (length after)
+  pub lies : Lies number_of r (length after)

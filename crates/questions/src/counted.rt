@@ -5,15 +5,16 @@ ghost use Rattle.questions.specs.DeskReply.{Answers};
 ghost use Rattle.questions.specs.Question.{◌among◌, ◌at◌, alone, with_one, with_two, with_three};
 
 use crate::DeskAnswer;
+use rows::Refusal;
 use words::place_of;
 
-pub(crate) fn alone(word: &[u8]) -> DeskAnswer
+pub(crate) fn alone(word: &[u8]) -> DeskAnswer<Refusal>
     ensures { (row : List ℕ) → Answers (word.now among alone) result row row }
 {
     alone_at(place_of(word, b" constants help"))
 }
 
-fn alone_at(k: usize) -> DeskAnswer
+fn alone_at(k: usize) -> DeskAnswer<Refusal>
     ensures { (row : List ℕ) → Answers (alone at k) result row row }
 {
     match k {
@@ -23,7 +24,7 @@ fn alone_at(k: usize) -> DeskAnswer
     }
 }
 
-pub(crate) fn with_one(word: &[u8], n: u64, row: &mut [u64]) -> DeskAnswer
+pub(crate) fn with_one(word: &[u8], n: u64, row: &mut [u64]) -> DeskAnswer<Refusal>
     ensures { Answers (word.now among with_one shoushi (length row.old) n) result row.old row.new }
 {
     one_at(
@@ -36,7 +37,7 @@ pub(crate) fn with_one(word: &[u8], n: u64, row: &mut [u64]) -> DeskAnswer
     )
 }
 
-fn one_at(k: usize, n: u64, row: &mut [u64]) -> DeskAnswer
+fn one_at(k: usize, n: u64, row: &mut [u64]) -> DeskAnswer<Refusal>
     ensures { Answers (with_one shoushi (length row.old) n at k) result row.old row.new }
 {
     match k {
@@ -53,7 +54,7 @@ fn one_at(k: usize, n: u64, row: &mut [u64]) -> DeskAnswer
     }
 }
 
-pub(crate) fn with_two(word: &[u8], n: u64, i: u64, row: &mut [u64]) -> DeskAnswer
+pub(crate) fn with_two(word: &[u8], n: u64, i: u64, row: &mut [u64]) -> DeskAnswer<Refusal>
     ensures { Answers (word.now among with_two shoushi (length row.old) n i) result row.old row.new }
 {
     two_at(
@@ -67,7 +68,7 @@ pub(crate) fn with_two(word: &[u8], n: u64, i: u64, row: &mut [u64]) -> DeskAnsw
     )
 }
 
-fn two_at(k: usize, n: u64, i: u64, row: &mut [u64]) -> DeskAnswer
+fn two_at(k: usize, n: u64, i: u64, row: &mut [u64]) -> DeskAnswer<Refusal>
     ensures { Answers (with_two shoushi (length row.old) n i at k) result row.old row.new }
 {
     match k {
@@ -84,13 +85,13 @@ fn two_at(k: usize, n: u64, i: u64, row: &mut [u64]) -> DeskAnswer
     }
 }
 
-pub(crate) fn with_three(word: &[u8], n: u64, i: u64, p: u64) -> DeskAnswer
+pub(crate) fn with_three(word: &[u8], n: u64, i: u64, p: u64) -> DeskAnswer<Refusal>
     ensures { (row : List ℕ) → Answers (word.now among with_three shoushi n i p) result row row }
 {
     three_at(place_of(word, b" pentad back"), n, i, p)
 }
 
-fn three_at(k: usize, n: u64, i: u64, p: u64) -> DeskAnswer
+fn three_at(k: usize, n: u64, i: u64, p: u64) -> DeskAnswer<Refusal>
     ensures { (row : List ℕ) → Answers (with_three shoushi n i p at k) result row row }
 {
     match k {

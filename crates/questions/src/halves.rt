@@ -8,10 +8,11 @@ ghost use Rattle.questions.specs.Question.{◌among◌, ◌at◌, solar_in, luna
 use crate::DeskAnswer;
 use inequalities::limits::LunarHalf;
 use inequalities::solar::SolarHalf;
+use rows::Refusal;
 use words::{Numbers, place_of};
 
 // After the half there is one number.
-pub(crate) fn on_half(word: &[u8], rest: &[u8]) -> DeskAnswer
+pub(crate) fn on_half(word: &[u8], rest: &[u8]) -> DeskAnswer<Refusal>
     ensures { (row : List ℕ) → Answers (on_half word.now (part_of rest.now) (numbers_of (rest_of rest.now))) result row row }
 {
     let numbers = words::numbers_in(words::rest_in(rest));
@@ -21,13 +22,13 @@ pub(crate) fn on_half(word: &[u8], rest: &[u8]) -> DeskAnswer
     with_half(word, words::part_in(rest), t)
 }
 
-fn with_half(word: &[u8], half: &[u8], t: u64) -> DeskAnswer
+fn with_half(word: &[u8], half: &[u8], t: u64) -> DeskAnswer<Refusal>
     ensures { (row : List ℕ) → Answers (word.now among with_half half.now t) result row row }
 {
     half_at(place_of(word, b" solar-at lunar-at motion-at"), half, t)
 }
 
-fn half_at(k: usize, half: &[u8], t: u64) -> DeskAnswer
+fn half_at(k: usize, half: &[u8], t: u64) -> DeskAnswer<Refusal>
     ensures { (row : List ℕ) → Answers (with_half half.now t at k) result row row }
 {
     match k {
@@ -38,13 +39,13 @@ fn half_at(k: usize, half: &[u8], t: u64) -> DeskAnswer
     }
 }
 
-fn solar_in(half: &[u8], t: u64) -> DeskAnswer
+fn solar_in(half: &[u8], t: u64) -> DeskAnswer<Refusal>
     ensures { (row : List ℕ) → Answers (half.now among solar_in t) result row row }
 {
     solar_by(place_of(half, b" fast slow"), t)
 }
 
-fn solar_by(k: usize, t: u64) -> DeskAnswer
+fn solar_by(k: usize, t: u64) -> DeskAnswer<Refusal>
     ensures { (row : List ℕ) → Answers (solar_in t at k) result row row }
 {
     match k {
@@ -54,13 +55,13 @@ fn solar_by(k: usize, t: u64) -> DeskAnswer
     }
 }
 
-fn lunar_in(half: &[u8], t: u64) -> DeskAnswer
+fn lunar_in(half: &[u8], t: u64) -> DeskAnswer<Refusal>
     ensures { (row : List ℕ) → Answers (half.now among lunar_in t) result row row }
 {
     lunar_by(place_of(half, b" quick tardy"), t)
 }
 
-fn lunar_by(k: usize, t: u64) -> DeskAnswer
+fn lunar_by(k: usize, t: u64) -> DeskAnswer<Refusal>
     ensures { (row : List ℕ) → Answers (lunar_in t at k) result row row }
 {
     match k {
@@ -70,13 +71,13 @@ fn lunar_by(k: usize, t: u64) -> DeskAnswer
     }
 }
 
-fn motion_in(half: &[u8], t: u64) -> DeskAnswer
+fn motion_in(half: &[u8], t: u64) -> DeskAnswer<Refusal>
     ensures { (row : List ℕ) → Answers (half.now among motion_in t) result row row }
 {
     motion_by(place_of(half, b" quick tardy"), t)
 }
 
-fn motion_by(k: usize, t: u64) -> DeskAnswer
+fn motion_by(k: usize, t: u64) -> DeskAnswer<Refusal>
     ensures { (row : List ℕ) → Answers (motion_in t at k) result row row }
 {
     match k {

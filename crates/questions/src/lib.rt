@@ -12,35 +12,34 @@ ghost use Rattle.questions.specs.DeskReply.{Answers};
 ghost use Rattle.questions.specs.Question.{on_numbers, reply_to};
 
 use measure::Name;
-use months::MonthAnswer;
-use remainders::{DaysAnswer, HourAnswer};
-use rows::Answer;
-use signed::SignedAnswer;
+use months::Month;
+use remainders::Hour;
+use rows::Refusal;
 use words::Numbers;
 
-// The calendar's answer, by the kind of what was asked for.
+// The calendar's answer, by the kind of what was asked for, with what tells of a refusal.
 #[derive(Clone, Copy)]
-pub enum DeskAnswer {
+pub enum DeskAnswer<R> {
     // No question.
     Malformed,
-    Number(Answer),
+    Number(Result<u64, R>),
     // A running time.
-    Moment(Answer),
-    Signed(SignedAnswer),
+    Moment(Result<u64, R>),
+    Signed(Result<i64, R>),
     // The month of a day.
-    Month(MonthAnswer),
+    Month(Result<Month, R>),
     // The name of a day.
     Name(Name),
     // A double-hour with its ke.
-    Hour(HourAnswer),
+    Hour(Result<Hour, R>),
     // Days to add.
-    Days(DaysAnswer),
+    Days(Result<Option<u64>, R>),
     // How many numbers, records or years stand in the lent row: the terms of a year, its months, those of a run of years, and the years that
     // agree with a torn sheet.
-    Terms(Answer),
-    Year(Answer),
-    Years(Answer),
-    Sheet(Answer),
+    Terms(Result<u64, R>),
+    Year(Result<u64, R>),
+    Years(Result<u64, R>),
+    Sheet(Result<u64, R>),
     Constants,
     Help,
 }
@@ -50,7 +49,7 @@ pub const LONGEST: usize = 1_023;
 
 // The answer to a line: its first word says what is asked, and the rest of what. A list goes into the row from its start; a row too short for
 // it is refused with 4.
-pub fn ask(line: &[u8], row: &mut [u64]) -> DeskAnswer
+pub fn ask(line: &[u8], row: &mut [u64]) -> DeskAnswer<Refusal>
     ensures { Answers (reply_to shoushi (length row.old) line.now) result row.old row.new }
 {
     if line.len() > LONGEST {
@@ -65,7 +64,7 @@ pub fn ask(line: &[u8], row: &mut [u64]) -> DeskAnswer
 }
 
 // The numbers are read once. Where the rest is no numbers, it starts with a half.
-fn by_numbers(word: &[u8], rest: &[u8], row: &mut [u64]) -> DeskAnswer
+fn by_numbers(word: &[u8], rest: &[u8], row: &mut [u64]) -> DeskAnswer<Refusal>
     ensures { Answers (on_numbers shoushi (length row.old) word.now rest.now (numbers_of rest.now)) result row.old row.new }
 {
     let numbers = words::numbers_in(rest);

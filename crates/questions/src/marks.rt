@@ -9,13 +9,13 @@ ghost use Rattle.questions.specs.Question.{on_marks};
 ghost use Rattle.questions.specs.declared.marks.MarkRead.TheVariants.{Unread};
 
 use crate::DeskAnswer;
-use rows::{Answer, BAD_LINE};
+use rows::Refusal;
 use sheets::{Mark, Sheet, Shown};
 use words::decimals::{Number, number_in};
 use words::{part_in, place_of, rest_in};
 
 // The years that agree with the marks of a text, in the row. A text that is not all marks is no sheet.
-pub(crate) fn on_marks(text: &[u8], row: &mut [u64]) -> DeskAnswer
+pub(crate) fn on_marks(text: &[u8], row: &mut [u64]) -> DeskAnswer<Refusal>
     ensures { Answers (on_marks shoushi (length row.old) (marks_in text.now)) result row.old row.new }
 {
     let read = sheet_in(text);
@@ -23,7 +23,7 @@ pub(crate) fn on_marks(text: &[u8], row: &mut [u64]) -> DeskAnswer
     if read.whole {
         DeskAnswer::Sheet(sheets::years_for(sheet, row))
     } else {
-        DeskAnswer::Sheet(Answer::Refused(BAD_LINE))
+        DeskAnswer::Sheet(Err(Refusal::BadLine))
     }
 }
 

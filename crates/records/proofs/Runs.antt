@@ -9,7 +9,8 @@ use Rattle.rows.specs.Reply.{Reply, refused, answer_said}
 use Rattle.rows.specs.Row.{listed, over, row_after}
 use Rattle.measure.specs.Units.{last_year}
 use Rattle.measure.specs.Epoch.{shoushi}
-use Rattle.rows.specs.declared.Answer.{Answer}
+use Rattle.std.specs.Prelude.{Result}
+use Rattle.rows.specs.declared.Refusal.{Refusal}
 use Rattle.moons.specs.Lunation.{last_lunation}
 use Rattle.month_law.specs.Calendar.{Calendar, head, months_in}
 use Rattle.edition.specs.Edition.{calendar}
@@ -27,13 +28,13 @@ abbrev cal : Calendar
 cal = calendar shoushi
 
 -- what the two questions say of their reply and of a row at entry and at exit
-abbrev pub Says : Reply ℕ → List ℕ → List MonthRecord → Answer → List MonthRecord → Type 0
+abbrev pub Says : Reply ℕ → List ℕ → List MonthRecord → Result ℕ Refusal → List MonthRecord → Type 0
 Says reply numbers row r end = (answer_said r ≡ reply) × (end ≡ row_after reply (in_records numbers) row)
 
-abbrev pub YearSays : ℕ → List MonthRecord → Answer → List MonthRecord → Type 0
+abbrev pub YearSays : ℕ → List MonthRecord → Result ℕ Refusal → List MonthRecord → Type 0
 YearSays n row = Says (list_reply shoushi n (length row)) (records_of cal n (months_in cal n)) row
 
-abbrev pub RunSays : ℕ → ℕ → List MonthRecord → Answer → List MonthRecord → Type 0
+abbrev pub RunSays : ℕ → ℕ → List MonthRecord → Result ℕ Refusal → List MonthRecord → Type 0
 RunSays n k row = Says (run_reply shoushi n k (length row)) (run_of cal n k) row
 
 -- so many months from `start` on are written for a reply: they have room in the row, are counted ones, and are the run's
@@ -42,7 +43,7 @@ pub record Planned (n k room start months : ℕ) (reply : Reply ℕ) : Type 0 wh
   pub counted : (i : ℕ) → i < months → start + i ≤ last_lunation
   pub told : (row : List MonthRecord) → over (structs_from cal start months) row ≡ row_after reply (in_records (run_of cal n k)) row
 
-pub planned : (n k room start months : ℕ) (r : Answer) → answer_said r ≡ run_reply shoushi n k room → months ≡ written_in (answer_said r)
+pub planned : (n k room start months : ℕ) (r : Result ℕ Refusal) → answer_said r ≡ run_reply shoushi n k room → months ≡ written_in (answer_said r)
     → (n ≤ suc last_year → start ≡ head cal n)
     → Planned n k room start months (run_reply shoushi n k room)
 unfolding over structs_from listed
@@ -65,7 +66,7 @@ planned n k room start months r er em begins =
         rw none (record { within = omega arith; counted = λ i h. omega arith; told = λ row. refl })
 
 -- a year's list is the run of that year
-pub year_of_run : (n : ℕ) (row : List MonthRecord) (r : Answer) (end : List MonthRecord) → RunSays n 1 row r end → YearSays n row r end
+pub year_of_run : (n : ℕ) (row : List MonthRecord) (r : Result ℕ Refusal) (end : List MonthRecord) → RunSays n 1 row r end → YearSays n row r end
 year_of_run n row r end h =
     let e = reply_of_one shoushi n (length row) in
     (h.0 ∙ e, h.1 ∙ (λ i. row_after (e i) (in_records (run_of_one cal n i)) row))

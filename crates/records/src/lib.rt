@@ -17,7 +17,7 @@ use edition::first_day;
 use lists::year_rows::RECORD_WIDTH;
 use measure::LAST_YEAR;
 use months::Span;
-use rows::Answer;
+use rows::Refusal;
 
 #[derive(Clone, Copy)]
 pub struct MonthRecord {
@@ -44,7 +44,7 @@ impl From<[u64; RECORD_WIDTH]> for MonthRecord {
 
 // The records of year n from the row's start; how many there are. A year past the last is refused with 1, then a row that is too short
 // with 4.
-pub fn year_records(n: u64, row: &mut [MonthRecord]) -> Answer
+pub fn year_records(n: u64, row: &mut [MonthRecord]) -> Result<u64, Refusal>
     ensures { (answer_said result ≡ list_reply shoushi n (length row.old))
         × (row.new ≡ row_after (list_reply shoushi n (length row.old)) (in_records (records_of (calendar shoushi) n (months_in (calendar shoushi) n))) row.old) }
 {
@@ -54,7 +54,7 @@ pub fn year_records(n: u64, row: &mut [MonthRecord]) -> Answer
 // The records of so many years from n on, each list from where the one before it ended, so that they are those of the months from the
 // first head on; how many there are. No years, a first year past the last or a run past it are refused with 1, then a row that is too
 // short with 4.
-pub fn run_records(n: u64, count: u64, row: &mut [MonthRecord]) -> Answer
+pub fn run_records(n: u64, count: u64, row: &mut [MonthRecord]) -> Result<u64, Refusal>
     ensures { (answer_said result ≡ run_reply shoushi n count (length row.old))
         × (row.new ≡ row_after (run_reply shoushi n count (length row.old)) (in_records (run_of (calendar shoushi) n count)) row.old) }
 {
@@ -82,22 +82,20 @@ fn record_of(l: u64, i: usize) -> MonthRecord
 }
 
 // The reply to a run where the row has room for so many records.
-fn run_reply(n: u64, count: u64, room: usize) -> Answer
+fn run_reply(n: u64, count: u64, room: usize) -> Result<u64, Refusal>
     ensures { answer_said result ≡ run_reply shoushi n count room }
 {
-    match lists::run_asked(n, count, room as u64) {
-        Answer::Refused(k) => Answer::Refused(k),
-        Answer::Number(_) => Answer::Number(head_for(n + count) - head_for(n)),
-    }
+    lists::run_asked(n, count, room as u64)?;
+    Ok(head_for(n + count) - head_for(n))
 }
 
 // How many records a reply tells of: none where it refuses.
-fn written_in(reply: Answer) -> usize
+fn written_in(reply: Result<u64, Refusal>) -> usize
     ensures { result ≡ written_in (answer_said reply) }
 {
     match reply {
-        Answer::Number(months) => months as usize,
-        Answer::Refused(_) => 0,
+        Ok(months) => months as usize,
+        Err(_) => 0,
     }
 }
 

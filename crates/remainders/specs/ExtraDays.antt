@@ -1,11 +1,10 @@
 -- "Extra and vanishing days": each is judged on a remainder alone, and found by the days to add to its day.
 -- Assumes nothing.
-use Rattle.std.specs.Prelude.{◌≡◌, refl, ℕ, ◌+◌, ◌*◌, ◌-◌, ◌/◌, if◌then◌else◌}
+use Rattle.std.specs.Prelude.{◌≡◌, refl, ℕ, ◌+◌, ◌*◌, ◌-◌, ◌/◌, if◌then◌else◌, Option, Some, None, Result}
 use Rattle.rows.specs.Choice.{◌≤?◌}
-use Rattle.rows.specs.Reply.{Reply, answer, refused, outside, refuse_if}
+use Rattle.rows.specs.Reply.{Reply, answer, outside, refuse_if, number_of, reply_of}
 use Rattle.measure.specs.Units.{day, term_step, month_deficit}
-use Rattle.remainders.specs.declared.DaysAnswer.{DaysAnswer}
-use Rattle.remainders.specs.declared.DaysAnswer.TheVariants.{Add, Nothing, Refused}
+use Rattle.rows.specs.declared.Refusal.{Refusal}
 
 -- "none" is an answer like any other
 pub data Found : Type 0 where
@@ -36,8 +35,10 @@ extra_reply r = refuse_if (day ≤? r) outside (answer (extra_day r))
 unfoldable pub vanishing_reply : ℕ → Reply Found
 vanishing_reply r = refuse_if (day ≤? r) outside (answer (vanishing_day r))
 
--- the paper's reply that each case stands for
-abbrev pub days_said : DaysAnswer → Reply Found
-days_said (Add n) = answer (days_on n)
-days_said Nothing = answer none
-days_said (Refused k) = refused k
+-- the paper's days and reply that each stands for
+abbrev pub days_found : Option ℕ → Found
+days_found (Some n) = days_on n
+days_found None = none
+
+abbrev pub days_said : Result (Option ℕ) Refusal → Reply Found
+days_said a = reply_of days_found number_of a

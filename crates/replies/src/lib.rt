@@ -15,18 +15,18 @@ use crate::line_texts::{
 };
 use crate::list_texts::{put_list, put_months};
 use questions::DeskAnswer;
-use rows::BAD_LINE;
+use rows::{Numbered, Refusal};
 use texts::fill;
 
 // The line of an answer, from the row's start; how many bytes it has. Whoever asks has shown that the row has room for it.
 #[tactic(auto, using(crate::proofs::ListTextLaws::few_fit), unfolding(crate::specs::ReplyText::reply_text, crate::specs::ReplyText::room_of))]
-pub fn put_reply(r: DeskAnswer, numbers: &[u64], row: &mut [u8]) -> usize
-    requires { (line_room ≤ length row.old) × Lies r (length numbers.now) × (room_of (desk_said r numbers.now) ≤ length row.old) }
-    ensures value { result ≡ length (reply_text (desk_said r numbers.now)) }
-    ensures writes { row.new ≡ over (reply_text (desk_said r numbers.now)) row.old }
+pub fn put_reply<R: Numbered>(r: DeskAnswer<R>, numbers: &[u64], row: &mut [u8]) -> usize
+    requires { (line_room ≤ length row.old) × Lies R.number r (length numbers.now) × (room_of (desk_said R.number r numbers.now) ≤ length row.old) }
+    ensures value { result ≡ length (reply_text (desk_said R.number r numbers.now)) }
+    ensures writes { row.new ≡ over (reply_text (desk_said R.number r numbers.now)) row.old }
 {
     match r {
-        DeskAnswer::Malformed => put_refusal(BAD_LINE, row),
+        DeskAnswer::Malformed => put_refusal(Refusal::BadLine.number(), row),
         DeskAnswer::Number(a) => put_one(a, row),
         DeskAnswer::Moment(a) => put_moment(a, row),
         DeskAnswer::Signed(a) => put_signed(a, row),

@@ -2,19 +2,17 @@
 #![tactic(auto, unfolding(crate::specs::LineText::item_at, crate::specs::LineText::items_of, crate::specs::LineText::refusal_text, crate::specs::LineText::numbers_text, crate::specs::LineText::days_text, crate::specs::LineText::signed_text, crate::specs::LineText::month_text, crate::specs::LineText::moment_text))]
 
 ghost use Rattle.std.specs.Prelude.{◌≡◌, ◌≤◌, length};
-ghost use Rattle.rows.specs.Reply.{answer_said};
+ghost use Rattle.rows.specs.Reply.{reply_of, answer_by};
 ghost use Rattle.rows.specs.Row.{over};
-ghost use Rattle.signed.specs.Signed.{signed_said};
-ghost use Rattle.remainders.specs.Hours.{hour_said};
-ghost use Rattle.remainders.specs.ExtraDays.{days_said};
-ghost use Rattle.months.specs.Month.{month_said, month_answer_said};
+ghost use Rattle.remainders.specs.Hours.{hour_found};
+ghost use Rattle.remainders.specs.ExtraDays.{days_found};
+ghost use Rattle.months.specs.Month.{month_said};
 ghost use Rattle.replies.specs.LineText.{text_of, refusal_text, number_text, name_text, hour_text, days_text, signed_text, month_text, moment_text, line_room};
 
 use measure::Name;
-use months::{Month, MonthAnswer};
-use remainders::{DaysAnswer, HourAnswer};
-use rows::Answer;
-use signed::SignedAnswer;
+use months::Month;
+use remainders::Hour;
+use rows::Numbered;
 use texts::fill;
 
 pub(crate) fn put_refusal(k: u64, row: &mut [u8]) -> usize
@@ -25,25 +23,25 @@ pub(crate) fn put_refusal(k: u64, row: &mut [u8]) -> usize
     fill(b"refused %\n", &[k], row)
 }
 
-pub(crate) fn put_one(a: Answer, row: &mut [u8]) -> usize
+pub(crate) fn put_one<R: Numbered>(a: Result<u64, R>, row: &mut [u8]) -> usize
     requires { line_room ≤ length row.old }
-    ensures value { result ≡ length (text_of number_text (answer_said a)) }
-    ensures writes { row.new ≡ over (text_of number_text (answer_said a)) row.old }
+    ensures value { result ≡ length (text_of number_text (answer_by R.number a)) }
+    ensures writes { row.new ≡ over (text_of number_text (answer_by R.number a)) row.old }
 {
     match a {
-        Answer::Refused(k) => put_refusal(k, row),
-        Answer::Number(n) => fill(b"%\n", &[n], row),
+        Err(r) => put_refusal(r.number(), row),
+        Ok(n) => fill(b"%\n", &[n], row),
     }
 }
 
-pub(crate) fn put_moment(a: Answer, row: &mut [u8]) -> usize
+pub(crate) fn put_moment<R: Numbered>(a: Result<u64, R>, row: &mut [u8]) -> usize
     requires { line_room ≤ length row.old }
-    ensures value { result ≡ length (text_of moment_text (answer_said a)) }
-    ensures writes { row.new ≡ over (text_of moment_text (answer_said a)) row.old }
+    ensures value { result ≡ length (text_of moment_text (answer_by R.number a)) }
+    ensures writes { row.new ≡ over (text_of moment_text (answer_by R.number a)) row.old }
 {
     match a {
-        Answer::Refused(k) => put_refusal(k, row),
-        Answer::Number(t) => put_time(t, row),
+        Err(r) => put_refusal(r.number(), row),
+        Ok(t) => put_time(t, row),
     }
 }
 
@@ -59,14 +57,14 @@ fn put_time(t: u64, row: &mut [u8]) -> usize
     fill(b"% % % %\n", &[t, day, remainder, name.name], row)
 }
 
-pub(crate) fn put_signed(a: SignedAnswer, row: &mut [u8]) -> usize
+pub(crate) fn put_signed<R: Numbered>(a: Result<i64, R>, row: &mut [u8]) -> usize
     requires { line_room ≤ length row.old }
-    ensures value { result ≡ length (text_of signed_text (signed_said a)) }
-    ensures writes { row.new ≡ over (text_of signed_text (signed_said a)) row.old }
+    ensures value { result ≡ length (text_of signed_text (answer_by R.number a)) }
+    ensures writes { row.new ≡ over (text_of signed_text (answer_by R.number a)) row.old }
 {
     match a {
-        SignedAnswer::Refused(k) => put_refusal(k, row),
-        SignedAnswer::Number(z) => put_integer(z, row),
+        Err(r) => put_refusal(r.number(), row),
+        Ok(z) => put_integer(z, row),
     }
 }
 
@@ -84,14 +82,14 @@ fn put_integer(z: i64, row: &mut [u8]) -> usize
     }
 }
 
-pub(crate) fn put_month(a: MonthAnswer, row: &mut [u8]) -> usize
+pub(crate) fn put_month<R: Numbered>(a: Result<Month, R>, row: &mut [u8]) -> usize
     requires { line_room ≤ length row.old }
-    ensures value { result ≡ length (text_of month_text (month_answer_said a)) }
-    ensures writes { row.new ≡ over (text_of month_text (month_answer_said a)) row.old }
+    ensures value { result ≡ length (text_of month_text (reply_of month_said R.number a)) }
+    ensures writes { row.new ≡ over (text_of month_text (reply_of month_said R.number a)) row.old }
 {
     match a {
-        MonthAnswer::Refused(k) => put_refusal(k, row),
-        MonthAnswer::Month(m) => put_fields(m, row),
+        Err(r) => put_refusal(r.number(), row),
+        Ok(m) => put_fields(m, row),
     }
 }
 
@@ -120,26 +118,26 @@ pub(crate) fn put_name(n: Name, row: &mut [u8]) -> usize
     fill(b"% % %\n", &[n.name, n.stem, n.branch], row)
 }
 
-pub(crate) fn put_hour(h: HourAnswer, row: &mut [u8]) -> usize
+pub(crate) fn put_hour<R: Numbered>(h: Result<Hour, R>, row: &mut [u8]) -> usize
     requires { line_room ≤ length row.old }
-    ensures value { result ≡ length (text_of hour_text (hour_said h)) }
-    ensures writes { row.new ≡ over (text_of hour_text (hour_said h)) row.old }
+    ensures value { result ≡ length (text_of hour_text (reply_of hour_found R.number h)) }
+    ensures writes { row.new ≡ over (text_of hour_text (reply_of hour_found R.number h)) row.old }
 {
     match h {
-        HourAnswer::Refused(k) => put_refusal(k, row),
-        HourAnswer::At { double_hour, ke } => fill(b"% %\n", &[double_hour, ke], row),
+        Err(r) => put_refusal(r.number(), row),
+        Ok(Hour { double_hour, ke }) => fill(b"% %\n", &[double_hour, ke], row),
     }
 }
 
 #[tactic(auto, unfolding(texts::specs::Text::filled, texts::specs::Text::piece, texts::specs::Text::numbers_taken, crate::specs::LineText::item_at, crate::specs::LineText::items_of, crate::specs::LineText::numbers_text, crate::specs::LineText::days_text))]
-pub(crate) fn put_days(d: DaysAnswer, row: &mut [u8]) -> usize
+pub(crate) fn put_days<R: Numbered>(d: Result<Option<u64>, R>, row: &mut [u8]) -> usize
     requires { line_room ≤ length row.old }
-    ensures value { result ≡ length (text_of days_text (days_said d)) }
-    ensures writes { row.new ≡ over (text_of days_text (days_said d)) row.old }
+    ensures value { result ≡ length (text_of days_text (reply_of days_found R.number d)) }
+    ensures writes { row.new ≡ over (text_of days_text (reply_of days_found R.number d)) row.old }
 {
     match d {
-        DaysAnswer::Refused(k) => put_refusal(k, row),
-        DaysAnswer::Nothing => fill(b"none\n", &[], row),
-        DaysAnswer::Add(n) => fill(b"%\n", &[n], row),
+        Err(r) => put_refusal(r.number(), row),
+        Ok(None) => fill(b"none\n", &[], row),
+        Ok(Some(n)) => fill(b"%\n", &[n], row),
     }
 }

@@ -1,7 +1,7 @@
 // The lines of lists whose numbers a row holds: numbers one by one, and months as records.
 ghost use Rattle.std.specs.Prelude.{◌≡◌, ◌+◌, ◌*◌, ◌≤◌, ◌<◌, length, take};
+ghost use Rattle.rows.specs.Reply.{answer_by};
 ghost use Rattle.rows.specs.Row.{over};
-ghost use Rattle.rows.specs.Reply.{answer_said};
 ghost use Rattle.lists.specs.Records.{record_width};
 ghost use Rattle.texts.specs.Text.{filled, text_room};
 ghost use Rattle.questions.specs.DeskReply.{list_in};
@@ -10,34 +10,32 @@ ghost use Rattle.replies.specs.ListText.{items_text, list_text, records_text, nu
 
 use crate::line_texts::put_refusal;
 use lists::year_rows::RECORD_WIDTH;
-use rows::Answer;
+use rows::Numbered;
 use texts::fill;
 
 // So many numbers, or the refusal.
 #[tactic(auto, using(crate::proofs::ListTextLaws::number_takes))]
-pub(crate) fn put_list(a: Answer, numbers: &[u64], row: &mut [u8]) -> usize
-    requires { (line_room ≤ length row.old) × HasRoom 1 number_room (answer_said a) (length numbers.now) (length row.old) }
-    ensures value { result ≡ length (text_of list_text (list_in 1 (answer_said a) numbers.now)) }
-    ensures writes { row.new ≡ over (text_of list_text (list_in 1 (answer_said a) numbers.now)) row.old }
+pub(crate) fn put_list<R: Numbered>(a: Result<u64, R>, numbers: &[u64], row: &mut [u8]) -> usize
+    requires { (line_room ≤ length row.old) × HasRoom 1 number_room (answer_by R.number a) (length numbers.now) (length row.old) }
+    ensures value { result ≡ length (text_of list_text (list_in 1 (answer_by R.number a) numbers.now)) }
+    ensures writes { row.new ≡ over (text_of list_text (list_in 1 (answer_by R.number a) numbers.now)) row.old }
 {
     match a {
-        Answer::Refused(k) => put_refusal(k, row),
-        Answer::Number(count) => put_items(b" %", 1, count as usize, numbers, row),
+        Err(r) => put_refusal(r.number(), row),
+        Ok(count) => put_items(b" %", 1, count as usize, numbers, row),
     }
 }
 
 // So many months, or the refusal.
 #[tactic(auto, using(crate::proofs::ListTextLaws::record_takes))]
-pub(crate) fn put_months(a: Answer, numbers: &[u64], row: &mut [u8]) -> usize
-    requires { (line_room ≤ length row.old) × HasRoom record_width record_room (answer_said a) (length numbers.now) (length row.old) }
-    ensures value { result ≡ length (text_of records_text (list_in record_width (answer_said a) numbers.now)) }
-    ensures writes { row.new ≡ over (text_of records_text (list_in record_width (answer_said a) numbers.now)) row.old }
+pub(crate) fn put_months<R: Numbered>(a: Result<u64, R>, numbers: &[u64], row: &mut [u8]) -> usize
+    requires { (line_room ≤ length row.old) × HasRoom record_width record_room (answer_by R.number a) (length numbers.now) (length row.old) }
+    ensures value { result ≡ length (text_of records_text (list_in record_width (answer_by R.number a) numbers.now)) }
+    ensures writes { row.new ≡ over (text_of records_text (list_in record_width (answer_by R.number a) numbers.now)) row.old }
 {
     match a {
-        Answer::Refused(k) => put_refusal(k, row),
-        Answer::Number(count) => {
-            put_items(b" %:%:%:%", RECORD_WIDTH, count as usize, numbers, row)
-        }
+        Err(r) => put_refusal(r.number(), row),
+        Ok(count) => { put_items(b" %:%:%:%", RECORD_WIDTH, count as usize, numbers, row) }
     }
 }
 

@@ -1,4 +1,5 @@
 pub mod Choice
 pub mod Determined
+pub mod Refused
 pub mod Row
 pub mod Below

@@ -1,8 +1,8 @@
 -- "Refused, by number": the paper's reply to a question, and when each number is given.
 -- Assumes nothing.
-use Rattle.std.specs.Prelude.{Bool, true, false, ℕ}
-use Rattle.rows.specs.declared.Answer.{Answer}
-use Rattle.rows.specs.declared.Answer.TheVariants.{Number, Refused}
+use Rattle.std.specs.Prelude.{Bool, true, false, ℕ, Result, Ok, Err}
+use Rattle.rows.specs.declared.Refusal.{Refusal}
+use Rattle.rows.specs.declared.Refusal.TheVariants.{NoYear, Outside, NoDay, ShortRow, BadLine}
 
 -- what was asked for, or a refusal with its number
 pub data Reply (A : Type 0) : Type 0 where
@@ -34,7 +34,21 @@ abbrev pub refuse_if : {A : Type 0} → Bool → ℕ → Reply A → Reply A
 refuse_if true k later = refused k
 refuse_if false k later = later
 
--- the paper's reply that each case stands for, where what was asked for is a number
-abbrev pub answer_said : Answer → Reply ℕ
-answer_said (Number n) = answer n
-answer_said (Refused k) = refused k
+-- the number of each refusal
+abbrev pub number_of : Refusal → ℕ
+number_of NoYear = no_year
+number_of Outside = outside
+number_of NoDay = no_day
+number_of ShortRow = short_row
+number_of BadLine = bad_line
+
+-- the paper's reply that a result stands for, by what its value says and what number its refusal has
+abbrev pub reply_of : {A B R : Type 0} → (A → B) → (R → ℕ) → Result A R → Reply B
+reply_of says number (Ok it) = answer (says it)
+reply_of says number (Err r) = refused (number r)
+
+abbrev pub answer_by : {A R : Type 0} → (R → ℕ) → Result A R → Reply A
+answer_by number a = reply_of (λ it. it) number a
+
+abbrev pub answer_said : {A : Type 0} → Result A Refusal → Reply A
+answer_said a = answer_by number_of a

@@ -1,20 +1,39 @@
-// What every question shares: its refusals by number, and the answer that is a number.
+// What every question shares: the refusals with their numbers.
 #![tactic(auto)]
 
-// Refusals, by number.
-pub const NO_YEAR: u64 = 1;
+ghost use Rattle.std.specs.Prelude.{◌≡◌, ℕ};
+ghost use Rattle.rows.specs.Reply.{number_of};
 
-pub const OUTSIDE: u64 = 2;
+// Why a question is refused, with the number by which it is told.
+#[derive(Clone, Copy, Debug, PartialEq, Eq)]
+pub enum Refusal {
+    NoYear = 1,
+    Outside = 2,
+    NoDay = 3,
+    ShortRow = 4,
+    BadLine = 5,
+}
 
-pub const NO_DAY: u64 = 3;
+// What has a refusal's number: a refusal, or the bare number of one.
+pub trait Numbered: Copy {
+    ghost number: { Self → ℕ };
 
-pub const SHORT_ROW: u64 = 4;
+    fn number(self) -> u64
+        ensures { result ≡ number self };
+}
 
-pub const BAD_LINE: u64 = 5;
+impl Numbered for Refusal {
+    ghost number = { number_of };
 
-// A number that was asked for, or a refusal's number.
-#[derive(Clone, Copy)]
-pub enum Answer {
-    Number(u64),
-    Refused(u64),
+    fn number(self) -> u64 {
+        self as u64
+    }
+}
+
+impl Numbered for u64 {
+    ghost number = { λ n. n };
+
+    fn number(self) -> u64 {
+        self
+    }
 }

@@ -10,61 +10,61 @@ ghost use Rattle.seasons.specs.Terms.{terms, term, term_reply, pentad_reply, ear
 ghost use Rattle.rows.specs.Row.{over, row_after};
 
 use measure::{EARTH_STEP, LAST_YEAR, PENTAD_STEP, SOLSTICE_EPOCH, TERM_STEP, TERMS, YEAR};
-use rows::{Answer, NO_YEAR, OUTSIDE, SHORT_ROW};
+use rows::Refusal;
 
 // The running time of the solstice that year n begins with. A year past the last is refused with 1.
 #[tactic(auto, unfolding(crate::specs::Solstice::solstice_reply, crate::specs::Solstice::solstice))]
-pub fn solstice(n: u64) -> Answer
+pub fn solstice(n: u64) -> Result<u64, Refusal>
     ensures { answer_said result ≡ solstice_reply shoushi n }
 {
     if LAST_YEAR < n {
-        return Answer::Refused(NO_YEAR);
+        return Err(Refusal::NoYear);
     }
-    Answer::Number(n * YEAR + SOLSTICE_EPOCH)
+    Ok(n * YEAR + SOLSTICE_EPOCH)
 }
 
 // The running time of term i of year n. After the year, a term past the last is refused with 2.
 #[tactic(auto, unfolding(crate::specs::Terms::term_reply))]
-pub fn term(n: u64, i: u64) -> Answer
+pub fn term(n: u64, i: u64) -> Result<u64, Refusal>
     ensures { answer_said result ≡ term_reply shoushi n i }
 {
     if LAST_YEAR < n {
-        return Answer::Refused(NO_YEAR);
+        return Err(Refusal::NoYear);
     }
     if TERMS <= i {
-        return Answer::Refused(OUTSIDE);
+        return Err(Refusal::Outside);
     }
-    Answer::Number(term_time(n, i))
+    Ok(term_time(n, i))
 }
 
 // The running time of pentad p of term i of year n. After the year, a term or a pentad past its last is refused with 2.
 #[tactic(auto, using(crate::proofs::TermLaws::term_most), unfolding(crate::specs::Terms::pentad_reply, crate::specs::Terms::pentad))]
-pub fn pentad(n: u64, i: u64, p: u64) -> Answer
+pub fn pentad(n: u64, i: u64, p: u64) -> Result<u64, Refusal>
     ensures { answer_said result ≡ pentad_reply shoushi n i p }
 {
     if LAST_YEAR < n {
-        return Answer::Refused(NO_YEAR);
+        return Err(Refusal::NoYear);
     }
     if TERMS <= i {
-        return Answer::Refused(OUTSIDE);
+        return Err(Refusal::Outside);
     }
     if 2 < p {
-        return Answer::Refused(OUTSIDE);
+        return Err(Refusal::Outside);
     }
-    Answer::Number(term_time(n, i) + p * PENTAD_STEP)
+    Ok(term_time(n, i) + p * PENTAD_STEP)
 }
 
 // When earth begins to rule before middle term i of year n. After the year, a term that has no such day is refused with 2.
 #[tactic(auto, using(crate::proofs::TermLaws::term_least), unfolding(crate::specs::Terms::earth_reply, crate::specs::Terms::earth))]
-pub fn earth(n: u64, i: u64) -> Answer
+pub fn earth(n: u64, i: u64) -> Result<u64, Refusal>
     ensures { answer_said result ≡ earth_reply shoushi n i }
 {
     if LAST_YEAR < n {
-        return Answer::Refused(NO_YEAR);
+        return Err(Refusal::NoYear);
     }
     match i {
-        2 | 8 | 14 | 20 => Answer::Number(term_time(n, i) - EARTH_STEP),
-        _ => Answer::Refused(OUTSIDE),
+        2 | 8 | 14 | 20 => Ok(term_time(n, i) - EARTH_STEP),
+        _ => Err(Refusal::Outside),
     }
 }
 
@@ -79,18 +79,18 @@ pub fn term_time(n: u64, i: u64) -> u64
 
 // The terms of year n from the row's start; how many there are. After the year, a row that is too short is refused with 4.
 #[tactic(auto, using(crate::proofs::TermLaws::terms_late, crate::proofs::TermLaws::terms_short, crate::proofs::TermLaws::terms_answered))]
-pub fn terms(n: u64, row: &mut [u64]) -> Answer
+pub fn terms(n: u64, row: &mut [u64]) -> Result<u64, Refusal>
     ensures value { answer_said result ≡ terms_reply n (length row.old) }
     ensures writes { row.new ≡ row_after (terms_reply n (length row.old)) (term_list shoushi n) row.old }
 {
     if LAST_YEAR < n {
-        return Answer::Refused(NO_YEAR);
+        return Err(Refusal::NoYear);
     }
     if row.len() < TERMS as usize {
-        return Answer::Refused(SHORT_ROW);
+        return Err(Refusal::ShortRow);
     }
     write_terms(n, row);
-    Answer::Number(TERMS)
+    Ok(TERMS)
 }
 
 // Each term is the one before it carried forward by one step, as learners add them up.

@@ -3,8 +3,6 @@
 use Rattle.std.specs.Prelude.{ℕ, ◌+◌, ℤ}
 use Rattle.std.proofs.Math.IntN.{sub_ℕ}
 use Rattle.rows.specs.Reply.{Reply, answer, refused}
-use Rattle.signed.specs.declared.SignedAnswer.{SignedAnswer}
-use Rattle.signed.specs.declared.SignedAnswer.TheVariants.{Number, Refused}
 
 pub record Signed : Type 0 where
   pub ahead : ℕ
@@ -28,8 +26,3 @@ integer x = sub_ℕ x.ahead x.behind
 abbrev pub as_integer : Reply Signed → Reply ℤ
 as_integer (answer x) = answer (integer x)
 as_integer (refused k) = refused k
-
--- the paper's reply that each case stands for
-abbrev pub signed_said : SignedAnswer → Reply ℤ
-signed_said (Number z) = answer z
-signed_said (Refused k) = refused k

@@ -1,16 +1,9 @@
-// Numbers with a sign: what is ahead less what is behind, and the reply that holds one.
+// Numbers with a sign: what is ahead less what is behind.
 #![tactic(auto)]
 
 ghost use Rattle.std.specs.Prelude.{◌≡◌, nat_abs, ◌*◌, ◌≤◌};
 ghost use Rattle.measure.specs.Units.{day};
 ghost use Rattle.signed.specs.Signed.{ahead_by, behind_by, integer};
-
-// A signed number that was asked for, or a refusal's number.
-#[derive(Clone, Copy)]
-pub enum SignedAnswer {
-    Number(i64),
-    Refused(u64),
-}
 
 // A positive number, and a negative one.
 pub fn ahead(magnitude: u64) -> i64
@@ -31,9 +24,5 @@ pub fn behind(magnitude: u64) -> i64
 pub fn magnitude_of(number: i64) -> u64
     ensures { result ≡ nat_abs number }
 {
-    if number < 0 {
-        (-(number + 1)) as u64 + 1
-    } else {
-        number as u64
-    }
+    number.unsigned_abs()
 }

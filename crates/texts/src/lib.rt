@@ -7,7 +7,7 @@ ghost use Rattle.rows.specs.Row.{over, row_after};
 ghost use Rattle.texts.specs.Text.{decimal, piece, numbers_taken, filled, most_digits, text_room, text_reply};
 
 use itoa::Buffer;
-use rows::{Answer, SHORT_ROW};
+use rows::Refusal;
 
 pub const HOLE: u8 = b'%';
 
@@ -17,14 +17,14 @@ pub const MOST_DIGITS: usize = 20;
 // The template with its numbers, from the row's start; how many bytes it has. A hole for which no number is left takes 0. A row with
 // less than 20 bytes for each byte of the template is refused with 4.
 #[tactic(auto, unfolding(crate::specs::Text::text_reply))]
-pub fn write_text(template: &[u8], numbers: &[u64], row: &mut [u8]) -> Answer
+pub fn write_text(template: &[u8], numbers: &[u64], row: &mut [u8]) -> Result<u64, Refusal>
     ensures value { answer_said result ≡ text_reply template.now numbers.now (length row.old) }
     ensures writes { row.new ≡ row_after (text_reply template.now numbers.now (length row.old)) (filled template.now numbers.now) row.old }
 {
     if row.len() / MOST_DIGITS < template.len() {
-        return Answer::Refused(SHORT_ROW);
+        return Err(Refusal::ShortRow);
     }
-    Answer::Number(fill(template, numbers, row) as u64)
+    Ok(fill(template, numbers, row) as u64)
 }
 
 // The same, for a caller whose row has the room.

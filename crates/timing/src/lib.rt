@@ -13,7 +13,7 @@ ghost use Rattle.lists.specs.Lists.{run_of, run_reply};
 ghost use Rattle.timing.specs.Timed.{number_told};
 
 use measure::{LAST_YEAR, TERMS};
-use rows::{Answer, NO_YEAR, SHORT_ROW};
+use rows::Refusal;
 use seasons::term_time;
 
 // An answer's number, with refused 0; a refusal has its number in refused, and 0 for the other. C, which reads it, has no Result.
@@ -28,7 +28,7 @@ pub struct Timed {
 pub fn timing_true_moon(l: u64, q: u64) -> Timed
     ensures { result ≡ number_told (true_reply shoushi l q) }
 {
-    number_told(moons::true_moon(l, q))
+    Timed::from(moons::true_moon(l, q))
 }
 
 // The records of so many years; how many there are.
@@ -36,7 +36,7 @@ pub fn timing_run(row: &mut [u64], n: u64, count: u64) -> Timed
     ensures value { result ≡ number_told (run_reply shoushi n count (length row.old / record_width)) }
     ensures writes { row.new ≡ row_after (run_reply shoushi n count (length row.old / record_width)) (run_of (calendar shoushi) n count) row.old }
 {
-    number_told(lists::run(n, count, row))
+    Timed::from(lists::run(n, count, row))
 }
 
 // The terms of a year, carried from one to the next; how many there are.
@@ -44,7 +44,7 @@ pub fn timing_terms(row: &mut [u64], n: u64) -> Timed
     ensures value { result ≡ number_told (terms_reply n (length row.old)) }
     ensures writes { row.new ≡ row_after (terms_reply n (length row.old)) (term_list shoushi n) row.old }
 {
-    number_told(seasons::terms(n, row))
+    Timed::from(seasons::terms(n, row))
 }
 
 // The same, each multiplied anew: what carrying them is timed against.
@@ -54,28 +54,27 @@ pub fn timing_terms_anew(row: &mut [u64], n: u64) -> Timed
     ensures writes { row.new ≡ row_after (terms_reply n (length row.old)) (term_list shoushi n) row.old }
 {
     if LAST_YEAR < n {
-        return number_told(Answer::Refused(NO_YEAR));
+        return Timed::from(Err(Refusal::NoYear));
     }
     if row.len() < TERMS as usize {
-        return number_told(Answer::Refused(SHORT_ROW));
+        return Timed::from(Err(Refusal::ShortRow));
     }
     for (i, slot) in row[..TERMS as usize].iter_mut().enumerate() {
         *slot = term_time(n, i as u64);
     }
-    number_told(Answer::Number(TERMS))
+    Timed::from(Ok(TERMS))
 }
 
-fn number_told(a: Answer) -> Timed
-    ensures { result ≡ number_told (answer_said a) }
-{
-    match a {
-        Answer::Number(n) => Timed {
-            refused: 0,
-            number: n,
-        },
-        Answer::Refused(k) => Timed {
-            refused: k,
-            number: 0,
-        },
+impl From<Result<u64, Refusal>> for Timed {
+    ghost from_gives = { λ a told. told ≡ number_told (answer_said a) };
+
+    fn from(a: Result<u64, Refusal>) -> Timed {
+        match a {
+            Ok(number) => Timed { refused: 0, number },
+            Err(r) => Timed {
+                refused: r as u64,
+                number: 0,
+            },
+        }
     }
 }

@@ -7,12 +7,12 @@ use Prim.Native.Nat.{ℕ, ◌*◌, ◌≤◌, ◌<◌}
 use native.Mathlib.Omega.{arith}
 use lib.ListN.{length, take, drop}
 use lib.Seq.{take_at, length-take-le}
-use Rattle.rows.specs.Reply.{answer, refused, no_year, short_row, answer_said}
+use Rattle.rows.specs.Reply.{answer, refused, no_year, short_row, number_of, answer_said}
 use Rattle.rows.specs.Row.{over, row_after}
 use Rattle.measure.specs.Units.{last_year}
 use Rattle.measure.specs.Epoch.{shoushi}
-use Rattle.rows.specs.declared.Answer.{Answer}
-use Rattle.rows.specs.declared.Answer.TheVariants.{Number, Refused}
+use Rattle.std.specs.Prelude.{Result, Ok, Err}
+use Rattle.rows.specs.declared.Refusal.{Refusal}
 use Rattle.rows.proofs.Choice.{lt_or_ge}
 use Rattle.month_law.specs.Calendar.{Calendar, months_in}
 use Rattle.edition.specs.Edition.{calendar}
@@ -27,7 +27,7 @@ abbrev c : Calendar
 c = calendar shoushi
 
 -- where the row with room got a number
-module _ (n k : ℕ) (got : Answer) (ensured : answer_said got ≡ list_reply shoushi n year_room) (case : got ≡ Number k) where
+module _ (n k : ℕ) (got : Result ℕ Refusal) (ensured : answer_said got ≡ list_reply shoushi n year_room) (case : got ≡ Ok k) where
   said : list_reply shoushi n year_room ≡ answer k
   said = sym ensured ∙ ap answer_said case
 
@@ -64,8 +64,8 @@ module _ (n k : ℕ) (got : Answer) (ensured : answer_said got ≡ list_reply sh
       rw (e, said) (take_at records (drop (length records) row) (k * record_width) long)
 
 -- where it was refused
-module _ (n k : ℕ) (got : Answer) (ensured : answer_said got ≡ list_reply shoushi n year_room) (case : got ≡ Refused k) where
-  none : list_reply shoushi n year_room ≡ refused k
+module _ (n : ℕ) (r : Refusal) (got : Result ℕ Refusal) (ensured : answer_said got ≡ list_reply shoushi n year_room) (case : got ≡ Err r) where
+  none : list_reply shoushi n year_room ≡ refused (number_of r)
   none = sym ensured ∙ ap answer_said case
 
   late : last_year < n
@@ -74,8 +74,8 @@ module _ (n k : ℕ) (got : Answer) (ensured : answer_said got ≡ list_reply sh
       (λ (h : n ≤ last_year). let never : ◌≡◌ {A = ℕ} 0 1 = cc (none, list_answered shoushi n year_room h (omega arith)) in omega arith)
       (lt_or_ge last_year n)
 
-  pub year_refused : k ≡ no_year
+  pub year_refused : number_of r ≡ no_year
   year_refused = cc (none, list_late shoushi n year_room late)
 
-  pub refused_in_any : (room : ℕ) → list_reply shoushi n room ≡ refused k
+  pub refused_in_any : (room : ℕ) → list_reply shoushi n room ≡ refused (number_of r)
   refused_in_any room = list_late shoushi n room late ∙ ap refused (sym year_refused)

@@ -5,7 +5,7 @@ mod record_bytes;
 
 ghost use Rattle.std.specs.Prelude.{◌≡◌, ◌<◌};
 ghost use Rattle.measure.specs.Epoch.{shoushi};
-ghost use Rattle.rows.specs.Reply.{answer, refused};
+ghost use Rattle.rows.specs.Reply.{answer, refused, number_of};
 ghost use Rattle.rows.specs.Row.{row_after};
 ghost use Rattle.month_law.specs.Calendar.{months_in};
 ghost use Rattle.edition.specs.Edition.{calendar};
@@ -19,13 +19,13 @@ ghost use Rattle.viewer.specs.Told.{FitsDay, day_told, count_told};
 use crate::record_bytes::{NUMBER_BYTES, put_numbers};
 use lists::year_rows::RECORD_WIDTH;
 use lists::{YEAR_NUMBERS, YEAR_ROOM};
-use months::{Month, MonthAnswer};
-use rows::{Answer, SHORT_ROW};
+use months::Month;
+use rows::Refusal;
 
 // A reply about a day. In a month, refused is 0; a refusal has its number there and 0 in every other field. No month has length 0.
 // The viewer, which reads it, is in C: there the flag stands beside the month.
 #[repr(C)]
-#[derive(Clone, Copy)]
+#[derive(Clone, Copy, Default)]
 pub struct Day {
     pub first: u32,
     pub year: u16,
@@ -39,7 +39,7 @@ pub struct Day {
 
 // How many records were written. Where the question is refused, its number stands in refused and no record was written. It is read in C too.
 #[repr(C)]
-#[derive(Clone, Copy)]
+#[derive(Clone, Copy, Default)]
 pub struct Count {
     pub refused: u32,
     pub records: u32,
@@ -50,8 +50,8 @@ pub fn lengadriu_day(d: u64) -> Day
     ensures { result ≡ day_told (day_reply shoushi d) }
 {
     match months::month_of(d) {
-        MonthAnswer::Month(m) => month_told(m),
-        MonthAnswer::Refused(k) => day_refused(k),
+        Ok(m) => month_told(m),
+        Err(r) => Day::from(r),
     }
 }
 
@@ -64,9 +64,9 @@ pub fn lengadriu_year(row: &mut [u8], n: u64) -> Count
 {
     let mut numbers = [0u64; YEAR_NUMBERS];
     match lists::list(n, &mut numbers) {
-        Answer::Number(records) => {
+        Ok(records) => {
             if row.len() / RECORD_BYTES < YEAR_ROOM as usize {
-                return count_refused(SHORT_ROW);
+                return Count::from(Refusal::ShortRow);
             }
             put_numbers(&numbers[..records as usize * RECORD_WIDTH], row);
             Count {
@@ -74,7 +74,7 @@ pub fn lengadriu_year(row: &mut [u8], n: u64) -> Count
                 records: records as u32,
             }
         }
-        Answer::Refused(k) => count_refused(k),
+        Err(r) => Count::from(r),
     }
 }
 
@@ -97,28 +97,25 @@ fn month_told(m: Month) -> Day
     }
 }
 
-fn day_refused(k: u64) -> Day
-    requires { k < 256 }
-    ensures { result ≡ day_told (refused k) }
-{
-    Day {
-        first: 0,
-        year: 0,
-        place: 0,
-        day: 0,
-        length: 0,
-        number: 0,
-        leap: 0,
-        refused: k as u8,
+// A refusal's number, and 0 in every other field.
+impl From<Refusal> for Day {
+    ghost from_gives = { λ r told. told ≡ day_told (refused (number_of r)) };
+
+    fn from(r: Refusal) -> Day {
+        Day {
+            refused: r as u8,
+            ..Day::default()
+        }
     }
 }
 
-fn count_refused(k: u64) -> Count
-    requires { k < 256 }
-    ensures { result ≡ count_told (refused k) }
-{
-    Count {
-        refused: k as u32,
-        records: 0,
+impl From<Refusal> for Count {
+    ghost from_gives = { λ r told. told ≡ count_told (refused (number_of r)) };
+
+    fn from(r: Refusal) -> Count {
+        Count {
+            refused: r as u32,
+            ..Count::default()
+        }
     }
 }

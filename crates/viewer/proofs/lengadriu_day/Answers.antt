@@ -3,12 +3,14 @@ use mathlib.Core.Path.{◌≡◌, ◌∙◌, sym, ap, subst}
 use Prim.Native.Nat.{ℕ}
 use Rattle.measure.specs.Epoch.{shoushi}
 use Rattle.months.specs.Month.{day_reply, month_answer_said}
-use Rattle.months.specs.declared.MonthAnswer.{MonthAnswer as ReplyCase}
+use Rattle.std.specs.Prelude.{Result}
+use Rattle.rows.specs.declared.Refusal.{Refusal}
+use Rattle.months.specs.declared.Month.{Month}
 use Rattle.viewer.proofs.Fitting.{ReplyFits, reply_fits}
 use Rattle.viewer.proofs.lengadriu_day.Goals as goal
 
 -- the reply that was got, once its case is known
-module _ (d : ℕ) (got known : ReplyCase) (ensured : month_answer_said got ≡ day_reply shoushi d) (case : got ≡ known) where
+module _ (d : ℕ) (got known : Result Month Refusal) (ensured : month_answer_said got ≡ day_reply shoushi d) (case : got ≡ known) where
   said : month_answer_said known ≡ day_reply shoushi d
   said = sym (ap month_answer_said case) ∙ ensured
 
@@ -17,8 +19,4 @@ module _ (d : ℕ) (got known : ReplyCase) (ensured : month_answer_said got ≡ 
 
 pub month_told-requires : goal.month_told-requires
 month_told-requires c =
-    (fits c.args.d c.month_of.result _ c.month_of.ensures c.in-Month.is).0
-
-pub day_refused-requires : goal.day_refused-requires
-day_refused-requires c =
-    (fits c.args.d c.month_of.result _ c.month_of.ensures c.in-Refused.is).1
+    (fits c.args.d c.month_of.result _ c.month_of.ensures c.in-Ok.is).0

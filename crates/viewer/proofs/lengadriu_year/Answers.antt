@@ -15,19 +15,19 @@ pub returns-then-row : goal.returns-then-row
 unfolding room_in
 returns-then-row c =
     let reply =
-    short_refused c.args.n _ c.list.result c.list.ensures.value c.in-Number.is (room_in c.args.row.now)
+    short_refused c.args.n _ c.list.result c.list.ensures.value c.in-Ok.is (room_in c.args.row.now)
     c.if-row.true in
-    record { value = c.count_refused.ensures ∙ ap count_told (sym reply); writes = rw reply }
+    record { value = c.from.ensures ∙ ap count_told (sym reply); writes = rw reply }
 
 pub returns-else-row : goal.returns-else-row
 unfolding room_in
 returns-else-row c =
     let reply =
-    long_answered c.args.n _ c.list.result c.list.ensures.value c.in-Number.is (room_in c.args.row.now)
+    long_answered c.args.n _ c.list.result c.list.ensures.value c.in-Ok.is (room_in c.args.row.now)
     c.if-row.false in
-    let numbers = numbers_given c.args.n _ c.list.result c.list.ensures.value c.in-Number.is _ _ c.list.ensures.writes in record { value = ap count_told (sym reply); writes = rw reply (c.put_numbers.ensures ∙ ap (λ (l : List ℕ). over (low_first_bytes l) c.args.row.now) numbers) }
+    let numbers = numbers_given c.args.n _ c.list.result c.list.ensures.value c.in-Ok.is _ _ c.list.ensures.writes in record { value = ap count_told (sym reply); writes = rw reply (c.put_numbers.ensures ∙ ap (λ (l : List ℕ). over (low_first_bytes l) c.args.row.now) numbers) }
 
-pub returns-in-Refused : goal.returns-in-Refused
-returns-in-Refused c =
-    let reply = refused_in_any c.args.n _ c.list.result c.list.ensures.value c.in-Refused.is (room_in c.args.row.now) in
-    record { value = c.count_refused-in-Refused.ensures ∙ ap count_told (sym reply); writes = rw reply }
+pub returns-in-Err : goal.returns-in-Err
+returns-in-Err c =
+    let reply = refused_in_any c.args.n _ c.list.result c.list.ensures.value c.in-Err.is (room_in c.args.row.now) in
+    record { value = c.from-in-Err.ensures ∙ ap count_told (sym reply); writes = rw reply }

@@ -21,7 +21,7 @@ pub returns : goal.returns
 returns c =
     let new = output shoushi c.args.input.now in
     let room = answered_whole shoushi c.args.input.now (length c.args.out.now) (omega arith) in
-    let told : answer c.in-Number.n ≡ answer (length new) = sym (ap answer_said c.in-Number.is) ∙ c.replies.ensures.value ∙ room in
-    let same : length new ≡ c.in-Number.n = cc in
+    let told : answer c.in-Ok.n ≡ answer (length new) = sym (ap answer_said c.in-Ok.is) ∙ c.replies.ensures.value ∙ room in
+    let same : length new ≡ c.in-Ok.n = cc in
     let row : c.replies.new.out ≡ over new c.args.out.now = rw room at c.replies.ensures.writes in
     record { value = sym same; writes = row }

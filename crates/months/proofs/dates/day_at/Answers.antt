@@ -4,7 +4,9 @@ use mathlib.Core.Bool.{true, false, false≢true}
 use mathlib.Core.Path.{◌≡◌, ◌∙◌, ap, sym}
 use Prim.Native.Nat.{ℕ, suc, ◌+◌, ◌-◌, ◌≤◌, ◌<◌}
 use native.Mathlib.Omega.{arith}
+use Rattle.std.specs.Prelude.{Result}
 use Rattle.rows.specs.Reply.{answer, refused, outside}
+use Rattle.rows.specs.declared.Refusal.{Refusal}
 use Rattle.measure.specs.Units.{last_year}
 use Rattle.measure.specs.Epoch.{shoushi}
 use Rattle.moons.specs.Lunation.{last_lunation}
@@ -12,7 +14,7 @@ use Rattle.month_law.specs.Calendar.{head}
 use Rattle.month_law.specs.Demand.{Dated}
 use Rattle.edition.specs.Edition.{calendar, first_day}
 use Rattle.months.specs.Month.{day_reply, month_answer_said}
-use Rattle.months.specs.declared.MonthAnswer.{MonthAnswer}
+use Rattle.months.specs.declared.Month.{Month}
 use Rattle.months.proofs.Reach.{place_most, first_most}
 use Rattle.months.specs.Date.{back_reply, has_date}
 use Rattle.months.proofs.Back.{date, day_of_date, date_small, back_no_year, back_answered, back_refused, date_given, given_date}
@@ -26,7 +28,7 @@ in_reach : (n p h : ℕ) → n ≤ last_year → p < 13 → h ≡ head (calendar
 in_reach n p h admitted few e = omega (arith, place_most n p admitted few)
 
 -- what the test of the reply says of the date
-module _ (n p m d : ℕ) (r : MonthAnswer) (admitted : n ≤ last_year) (e : d ≡ day_of_date n p m) (reply : month_answer_said r ≡ day_reply shoushi d) where
+module _ (n p m d : ℕ) (r : Result Month Refusal) (admitted : n ≤ last_year) (e : d ≡ day_of_date n p m) (reply : month_answer_said r ≡ day_reply shoushi d) where
   found : has_date (month_answer_said r) n p m ≡ true → answer d ≡ back_reply shoushi n p m
   found t =
       let x : Dated (calendar shoushi) d (date n p m) = given_date n p m d (rw reply at t) in
@@ -42,15 +44,7 @@ returns-then-n-gt-LAST_YEAR c =
 
 pub returns-then-p-ge-MOST_MONTHS : goal.returns-then-p-ge-MOST_MONTHS
 returns-then-p-ge-MOST_MONTHS c =
-    sym (back_refused _ _ _ c.if-n-gt-LAST_YEAR.false (λ x. omega (arith, date_small _ _ _ x)))
-
-pub returns-then-m-eq0 : goal.returns-then-m-eq0
-returns-then-m-eq0 c =
-    sym (back_refused _ _ _ c.if-n-gt-LAST_YEAR.false (λ x. omega (arith, date_small _ _ _ x)))
-
-pub returns-then-m-gt-MOST_DAYS : goal.returns-then-m-gt-MOST_DAYS
-returns-then-m-gt-MOST_DAYS c =
-    sym (back_refused _ _ _ c.if-n-gt-LAST_YEAR.false (λ x. omega (arith, date_small _ _ _ x)))
+    sym (back_refused _ _ _ c.if-n-gt-LAST_YEAR.false (λ x. omega (arith, date_small _ _ _ x, c.then-p-ge-MOST_MONTHS.either)))
 
 pub overflow_add-head_of : goal.overflow_add-head_of
 overflow_add-head_of c =
