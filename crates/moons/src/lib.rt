@@ -10,7 +10,10 @@ ghost use Rattle.signed.specs.Signed.{integer, as_integer};
 ghost use Rattle.moons.specs.Lunation.{last_lunation, last_quarter, Counted, mean, mean_reply, solar_time, anomaly};
 ghost use Rattle.moons.specs.TrueMoon.{correction, correction_of, true_moon, solar_reply, lunar_reply, motion_reply, correction_reply, true_reply};
 
-use measure::{ANOMALISTIC_MONTH, ANOMALY_EPOCH, HALF_YEAR, LEAP_EPOCH, MONTH, QUARTER_STEP, SOLSTICE_EPOCH, YEAR};
+use measure::{
+    ANOMALISTIC_MONTH, ANOMALY_EPOCH, HALF_YEAR, LEAP_EPOCH, MONTH, QUARTER_STEP, SOLSTICE_EPOCH,
+    YEAR,
+};
 use rows::Refusal;
 
 pub const LAST_LUNATION: u64 = 12_367;
