@@ -2,21 +2,24 @@
 -- were at hand.
 -- Assumes nothing.
 use Rattle.std.specs.Prelude.{if◌then◌else◌}
+use Rattle.std.specs.List.{copy_within}
 use mathlib.Core.Bool.{Bool, true, false, false≢true}
 use mathlib.Core.Logic.{⊎_elim}
 use mathlib.Core.Path.{◌≡◌, ◌∙◌, refl, sym, ap}
 use mathlib.Core.List.{List, [], ◌∷◌, ◌++◌}
 use Prim.Native.Nat.{ℕ, zero, suc, ◌+◌, ◌-◌, ◌≤◌, ◌<◌, min}
+use native.Mathlib.Nat.{zero-add}
 use native.Mathlib.Omega.{arith}
-use borrow.Author.Tests.{eqb-true, eq-eqb, ltb-true, ltb-false}
+use borrow.Author.Tests.{eqb-true, eq-eqb, ne_eqb, ltb-true, ltb-false}
 use lib.ListN.{length, get_or, take, drop, length-take, length-drop}
 use lib.Seq.{get_or-drop, take_all, take-take, take-add, drop_at, length-take-le}
 use Rattle.rows.specs.Choice.{◌<?◌, ◌=?◌}
+use Rattle.rows.specs.Row.{over}
 use Rattle.measure.specs.Epoch.{shoushi}
 use Rattle.rows.proofs.Choice.{lt_or_ge}
 use Rattle.frames.specs.LineEnds.{line_end, line_length}
 use Rattle.lines.specs.Line.{output}
-use Rattle.lines.specs.Block.{Unfinished, whole_length, whole_lines, enough, kept_of, written}
+use Rattle.lines.specs.Block.{Unfinished, NoEnd, LastEnd, whole_length, whole_lines, enough, kept_of, written}
 use Rattle.lines.proofs.BlockLaws.{goes_on, unfinished_take, six_bytes, whole_lines_lem}
 
 -- n bytes of a block are whole lines, and no line ends after them
@@ -83,6 +86,25 @@ whole_is block n w =
     ⊎_elim (λ (k : whole_length block < n). absurd (late k)) (λ (k : n ≤ whole_length block). omega arith) (lt_or_ge (whole_length block) n))
     (lt_or_ge n (whole_length block))
 
+-- where no byte ends a line, none ends in them
+none_ends : (begun : List ℕ) → NoEnd begun → Unfinished begun
+unfolding line_length
+none_ends [] h = refl
+none_ends (b ∷ bs) h =
+    rw (ne_eqb b line_end (h 0 (omega arith))) (ap suc (none_ends bs (λ k l. h (suc k) (omega arith))))
+
+-- the place after the last line end, or the start where there is none
+pub none_whole : (block : List ℕ) → NoEnd block → 0 ≡ whole_length block
+none_whole block h = whole_is block 0 (record { within = omega arith; ended = λ l. absurd (omega arith); unfinished = none_ends block h })
+
+pub whole_to : (block : List ℕ) (at : ℕ) → LastEnd block at → at + 1 ≡ whole_length block
+whole_to block at h =
+    let same : at + 1 - 1 ≡ at = omega arith in
+    let after : NoEnd (drop (at + 1) block) =
+    λ k l e. h.2 (at + 1 + k) (omega arith) (omega (arith, length-drop (at + 1) block)) (sym (get_or-drop (at + 1) block k 0) ∙ e) in
+    whole_is block (at + 1)
+    (record { within = omega (arith, h.0); ended = λ _. ap (λ (k : ℕ). get_or block k 0) same ∙ h.1; unfinished = none_ends (drop (at + 1) block) after })
+
 -- what is kept is the beginning of an unfinished line, or enough of it
 pub kept_unfinished : (block : List ℕ) → Unfinished (kept_of block)
 kept_unfinished block = unfinished_take enough (drop (whole_length block) block) (whole block).unfinished
@@ -115,6 +137,14 @@ drop_take m n l h fits =
     ap (λ (k : ℕ). drop m (take k l)) e
     ∙ ap (drop m) (take-add m (n - m) l)
     ∙ drop_at (take m l) (take (n - m) (drop m l)) m (length-take-le m l short)
+
+-- bytes that are moved to a buffer's start
+pub moved : (buf : List ℕ) (at k : ℕ) → at + k ≤ length buf → copy_within buf at (at + k) 0 ≡ over (take k (drop at buf)) buf
+unfolding over
+moved buf at k fits =
+    let count : at + k - at ≡ k = omega arith in
+    let long : length (take k (drop at buf)) ≡ k = length-take-le k (drop at buf) (omega (arith, length-drop at buf)) in
+    simp (count, zero-add, long)
 
 module _ (buf : List ℕ) (have lines kept : ℕ) (fits : have ≤ length buf) (cut : lines ≡ whole_length (take have buf))
     (least : kept ≡ min (have - lines) enough) where

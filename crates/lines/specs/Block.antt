@@ -1,6 +1,6 @@
 -- An input that comes in blocks: what of a block is answered at once, and what is kept of the line that it leaves unfinished.
 -- Assumes nothing.
-use Rattle.std.specs.Prelude.{◌≡◌, List, [], ◌∷◌, ℕ, suc, length, take, drop, if◌then◌else◌}
+use Rattle.std.specs.Prelude.{◌≡◌, ◌≢◌, ◌<◌, List, [], ◌∷◌, ℕ, suc, length, take, drop, slice_index, EachIndex, if◌then◌else◌}
 use Rattle.rows.specs.Choice.{◌<?◌, ◌=?◌}
 use Rattle.measure.specs.Epoch.{shoushi}
 use Rattle.frames.specs.LineEnds.{line_end, line_length}
@@ -17,6 +17,14 @@ whole_length [] = 0
 whole_length (b ∷ bs) =
     if 0 <? whole_length bs then suc (whole_length bs) else
     if b =? line_end then 1 else 0
+
+-- no line ends in a block, or the last that ends in it ends at this place
+abbrev pub NoEnd : List ℕ → Type 0
+NoEnd block = EachIndex block (λ k. slice_index block k ≢ line_end)
+
+abbrev pub LastEnd : List ℕ → ℕ → Type 0
+LastEnd block at =
+    (at < length block) × (slice_index block at ≡ line_end) × ((k : ℕ) → at < k → k < length block → slice_index block k ≢ line_end)
 
 abbrev pub whole_lines : List ℕ → List ℕ
 whole_lines block = take (whole_length block) block

@@ -1,9 +1,9 @@
 // A block of the input: the lines that end in it are answered, and what the unfinished line needs is kept.
-ghost use Rattle.std.specs.Prelude.{◌≡◌, ◌+◌, ◌*◌, ◌≤◌, min, length, take, drop};
+ghost use Rattle.std.specs.Prelude.{◌≡◌, ◌*◌, ◌≤◌, length, take, MatchOption};
 ghost use Rattle.rows.specs.Row.{over};
 ghost use Rattle.measure.specs.Epoch.{shoushi};
 ghost use Rattle.lines.specs.Line.{output, reply_room};
-ghost use Rattle.lines.specs.Block.{whole_length, kept_of, written, block_of};
+ghost use Rattle.lines.specs.Block.{whole_length, NoEnd, LastEnd, kept_of, written, block_of};
 
 use frames::LINE_END;
 use rows::Refusal;
@@ -27,8 +27,8 @@ pub fn answer_block(buf: &mut [u8], have: usize, out: &mut [u8]) -> Block
 {
     let whole = whole_lines(&buf[..have]);
     let written = answer_whole_lines(&buf[..whole], out);
-    let kept = least(have - whole, ENOUGH);
-    shift(buf, whole, kept);
+    let kept = (have - whole).min(ENOUGH);
+    buf.copy_within(whole..whole + kept, 0);
     Block { written, kept }
 }
 
@@ -45,33 +45,18 @@ pub fn answer_whole_lines(input: &[u8], out: &mut [u8]) -> usize
 }
 
 // The place after the last line end.
+#[tactic(auto, using(crate::proofs::Kept::none_whole, crate::proofs::Kept::whole_to))]
 fn whole_lines(block: &[u8]) -> usize
     ensures { result ≡ whole_length block.now }
 {
-    let mut n = block.len();
-    while 0 < n {
-        if block[n - 1] == LINE_END {
-            return n;
-        }
-        n -= 1;
+    match last_line_end(block) {
+        Some(at) => at + 1,
+        None => 0,
     }
-    0
 }
 
-fn least(a: usize, b: usize) -> usize
-    ensures { result ≡ min a b }
+fn last_line_end(block: &[u8]) -> Option<usize>
+    ensures { MatchOption result (NoEnd block.now) (LastEnd block.now) }
 {
-    if a < b { a } else { b }
-}
-
-// The k bytes from `at` on, moved to the start.
-fn shift(buf: &mut [u8], at: usize, k: usize)
-    requires { at + k ≤ length buf.old }
-    ensures { buf.new ≡ over (take k (drop at buf.old)) buf.old }
-{
-    let mut i: usize = 0;
-    while i < k {
-        buf[i] = buf[at + i];
-        i += 1;
-    }
+    block.iter().rposition(|b| *b == LINE_END)
 }

@@ -36,11 +36,10 @@ fn write_replies(input: &[u8], out: &mut [u8]) -> usize
 {
     let mut left = input;
     let mut used: usize = 0;
-    while 0 < left.len() {
+    while !left.is_empty() {
         let n = line_len(left);
         used += put_reply_line(&left[..n], &mut out[used..]);
-        let after = rest(left, n);
-        left = after;
+        left = rest(left, n);
     }
     used
 }

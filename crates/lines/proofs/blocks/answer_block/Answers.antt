@@ -8,7 +8,7 @@ use lib.Seq.{length-take-le}
 use Rattle.rows.specs.Row.{over}
 use Rattle.measure.specs.Epoch.{shoushi}
 use Rattle.lines.specs.Line.{output}
-use Rattle.lines.proofs.Kept.{whole, lines_are, kept_is, kept_long}
+use Rattle.lines.proofs.Kept.{whole, moved, lines_are, kept_is, kept_long}
 use Rattle.lines.proofs.blocks.answer_block.Goals as goal
 use Rattle.lines.proofs.blocks.answer_block.Goals.{After-whole_lines-whole}
 
@@ -33,14 +33,14 @@ pub overflow_sub-have : goal.overflow_sub-have
 overflow_sub-have c =
     in_block (goal.at.overflow_sub-have c).After-whole_lines-whole
 
-pub shift-requires : goal.shift-requires
-shift-requires c =
-    omega (arith, in_block (goal.at.shift-requires c).After-whole_lines-whole)
+pub copy_within-requires-clause-in_bounds : goal.copy_within-requires-clause-in_bounds
+copy_within-requires-clause-in_bounds c =
+    omega (arith, in_block (goal.at.copy_within-requires-clause-in_bounds c).After-whole_lines-whole)
 
 pub returns : goal.returns
 returns c =
     let fits : c.args.have ≤ length c.args.buf.now = omega arith in
-    let are = lines_are c.args.buf.now c.args.have c.whole_lines-whole.result c.least-kept.result fits c.whole_lines-whole.ensures c.least-kept.ensures in
-    let is = kept_is c.args.buf.now c.args.have c.whole_lines-whole.result c.least-kept.result fits c.whole_lines-whole.ensures c.least-kept.ensures in
-    let long = kept_long c.args.buf.now c.args.have c.whole_lines-whole.result c.least-kept.result fits c.whole_lines-whole.ensures c.least-kept.ensures in
-    let count = c.answer_whole_lines-written.ensures.value ∙ ap (λ (l : List ℕ). length (output shoushi l)) are in record { value = λ i. record { written = count i; kept = long i }; writes = c.answer_whole_lines-written.ensures.writes ∙ ap (λ (l : List ℕ). over (output shoushi l) c.args.out.now) are; buf_after = c.shift.ensures ∙ ap (λ (l : List ℕ). over l c.args.buf.now) is }
+    let are = lines_are c.args.buf.now c.args.have c.whole_lines-whole.result c.min-kept.result fits c.whole_lines-whole.ensures c.min-kept.ensures in
+    let is = kept_is c.args.buf.now c.args.have c.whole_lines-whole.result c.min-kept.result fits c.whole_lines-whole.ensures c.min-kept.ensures in
+    let long = kept_long c.args.buf.now c.args.have c.whole_lines-whole.result c.min-kept.result fits c.whole_lines-whole.ensures c.min-kept.ensures in
+    let count = c.answer_whole_lines-written.ensures.value ∙ ap (λ (l : List ℕ). length (output shoushi l)) are in record { value = λ i. record { written = count i; kept = long i }; writes = c.answer_whole_lines-written.ensures.writes ∙ ap (λ (l : List ℕ). over (output shoushi l) c.args.out.now) are; buf_after = c.copy_within.ensures.after ∙ moved c.args.buf.now c.whole_lines-whole.result c.min-kept.result (omega (arith, in_block (goal.at.returns c).After-whole_lines-whole)) ∙ ap (λ (l : List ℕ). over l c.args.buf.now) is }
