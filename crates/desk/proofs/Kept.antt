@@ -5,18 +5,27 @@ use Prim.Native.Nat.{ℕ, ◌+◌, ◌≤◌, ◌<◌}
 use native.Mathlib.Numerals.{add-one}
 use native.Mathlib.Omega.{arith}
 use borrow.Author.Tests.{eq-eqb, ne_eqb}
-use lib.ListN.{length, take, drop, get_or, take-append-drop}
-use lib.Seq.{take-suc, length-take-le}
+use lib.ListN.{length, take, get_or, set, length-append}
+use lib.Seq.{take-suc, take-suc-set, take_all, take_at, length-take-le}
 use Rattle.frames.specs.LineEnds.{line_end}
-use Rattle.rows.specs.Row.{over}
 use Rattle.measure.specs.Epoch.{shoushi}
 use Rattle.ask.specs.AnswerText.{answer_text}
-use Rattle.desk.specs.Input.{with_byte, kept_after, last_text}
+use Rattle.desk.specs.Input.{with_more, with_byte, kept_after, last_text}
 
--- the first bytes of a row, written over it, leave it as it was
-pub over_itself : (k : ℕ) (row : List ℕ) → k ≤ length row → row ≡ over (take k row) row
-unfolding over
-over_itself k row fits = sym (ap (λ (j : ℕ). take k row ++ drop j row) (length-take-le k row fits) ∙ take-append-drop k row)
+-- one byte more, as far as there is room
+module _ (row line : List ℕ) (k b room : ℕ) (is : take k row ≡ line) (long : length row ≡ room) where
+  pub with_room : k < room → take (k + 1) (set row k b) ≡ with_more room line b
+  with_room h =
+      let fits : k < length row = omega arith in
+      let more : take (k + 1) (set row k b) ≡ line ++ (b ∷ []) =
+      ap (λ (n : ℕ). take n (set row k b)) (add-one k) ∙ take-suc-set row k b fits ∙ ap (λ (l : List ℕ). l ++ (b ∷ [])) is in
+      let count : length line ≡ k = sym (ap length is) ∙ length-take-le k row (omega arith) in
+      more ∙ sym (take_all room (line ++ (b ∷ [])) (omega (arith, length-append line (b ∷ []), count)))
+
+  pub full : k ≤ room → room ≤ k → line ≡ with_more room line b
+  full most g =
+      let count : length line ≡ room = sym (ap length is) ∙ length-take-le k row (omega arith) ∙ omega arith in
+      sym (take_at line (b ∷ []) room count)
 
 kept_snoc : (room : ℕ) (line bs : List ℕ) (b : ℕ) → kept_after room line (bs ++ (b ∷ [])) ≡ with_byte room (kept_after room line bs) b
 unfolding kept_after

@@ -2,7 +2,8 @@
 -- through and what the arguments are; a turn and the arguments' line are determined but for that.
 -- Assumes nothing.
 use mathlib.Core.List.{List}
-use mathlib.Core.Path.{◌≡◌, ◌∙◌, sym}
+use mathlib.Core.Path.{◌≡◌, ◌∙◌, refl, sym}
+use Rattle.std.specs.Prelude.{Option, Some, None}
 use Prim.Native.Nat.{ℕ}
 use native.Mathlib.Omega.{arith}
 use contract.Lifetimes.{Lfts}
@@ -14,21 +15,18 @@ use denote.Param.Laws.{Laws}
 use Rattle.std.specs.declared.io.Print as Print
 use Rattle.std.specs.declared.io.Eprint as Eprint
 use Rattle.std.specs.declared.env.Env as Env
-use lib.ListN.{take}
 use Rattle.rows.proofs.Determined.{OneReply, OneOutcome}
 use Rattle.desk.specs.Input.{Left, AskedBy}
 use Rattle.desk.specs.declared.Turn.{Turn}
 use Rattle.desk.specs.declared.Turn.TheVariants.{Begun, Ended, CutShort}
-use Rattle.desk.specs.declared.Asked.{Asked}
-use Rattle.desk.specs.declared.Asked.TheVariants.{Line, Nothing}
 use Rattle.desk.proofs.answered.Kinds as answered
 use Rattle.desk.proofs.answered.Reads as answered_reads
 use Rattle.desk.proofs.last_reply.Kinds as last_reply_kinds
 use Rattle.desk.proofs.last_reply.Reads as last_reply_reads
-use Rattle.desk.proofs.keep.Kinds as keep
-use Rattle.desk.proofs.keep.Reads as keep_reads
-use Rattle.desk.proofs.blank_before.Kinds as blank_before_kinds
-use Rattle.desk.proofs.blank_before.Reads as blank_before_reads
+use Rattle.desk.proofs.Line.keep.Kinds as keep
+use Rattle.desk.proofs.Line.keep.Reads as keep_reads
+use Rattle.desk.proofs.Line.blank_before.Kinds as blank_before_kinds
+use Rattle.desk.proofs.Line.blank_before.Reads as blank_before_reads
 use Rattle.desk.proofs.with_argument.Kinds as with_argument_kinds
 use Rattle.desk.proofs.with_argument.Reads as with_argument_reads
 use Rattle.desk.proofs.answer_block.Kinds as answer_block_kinds
@@ -45,34 +43,34 @@ pub last_reply_unique : OneOutcome last_reply_kinds.ps last_reply_kinds.r last_r
 last_reply_unique κs a x y s t p q = (p.1.0 ∙ sym q.1.0, p.1.1 ∙ sym q.1.1)
 
 pub keep_unique : OneOutcome keep.ps keep.r keep_reads.Post (λ κs s. s.0.now)
-keep_unique κs a x y s t p q = (p.1.0 ∙ sym q.1.0, p.1.1 ∙ sym q.1.1)
+keep_unique κs a x y s t p q = (refl, p ∙ sym q)
 
 pub blank_before_unique : OneOutcome blank_before_kinds.ps blank_before_kinds.r blank_before_reads.Post (λ κs s. s.0.now)
-blank_before_unique κs a x y s t p q = (p.1.0 ∙ sym q.1.0, p.1.1 ∙ sym q.1.1)
+blank_before_unique κs a x y s t p q = (refl, p ∙ sym q)
 
 pub with_argument_unique : OneReply with_argument_kinds.ps with_argument_kinds.r with_argument_reads.Post
 with_argument_unique κs a x y s t p q = p.0 ∙ sym q.0
 
--- two ends of a turn: the same bytes kept, or both times the input's end; and where a write failed, no input's end
+-- two ends of a turn: the same line kept, or both times the input's end; and where a write failed, no input's end
 abbrev OneTurn : Turn → Turn → List ℕ → List ℕ → Type 0
-OneTurn (Begun m) (Begun n) s t = (m ≡ n) × (take m s ≡ take n t)
-OneTurn (Begun m) Ended s t = ⊥
-OneTurn (Begun m) CutShort s t = Unit {0}
-OneTurn Ended (Begun n) s t = ⊥
+OneTurn Begun Begun s t = s ≡ t
+OneTurn Begun Ended s t = ⊥
+OneTurn Begun CutShort s t = Unit {0}
+OneTurn Ended Begun s t = ⊥
 OneTurn Ended Ended s t = Unit {0}
 OneTurn Ended CutShort s t = ⊥
-OneTurn CutShort (Begun n) s t = Unit {0}
+OneTurn CutShort Begun s t = Unit {0}
 OneTurn CutShort Ended s t = ⊥
 OneTurn CutShort CutShort s t = Unit {0}
 
 one_turn_lem : (x y : Turn) (s t : List ℕ) (room : ℕ) (line block : List ℕ) → Left x s room line block → Left y t room line block → OneTurn x y s t
-one_turn_lem (Begun m) (Begun n) s t room line block p q = (p.2 ∙ sym q.2, p.3 ∙ sym q.3)
-one_turn_lem (Begun m) Ended s t room line block p q = omega arith
-one_turn_lem (Begun m) CutShort s t room line block p q = tt
-one_turn_lem Ended (Begun n) s t room line block p q = omega arith
+one_turn_lem Begun Begun s t room line block p q = p.1 ∙ sym q.1
+one_turn_lem Begun Ended s t room line block p q = omega arith
+one_turn_lem Begun CutShort s t room line block p q = tt
+one_turn_lem Ended Begun s t room line block p q = omega arith
 one_turn_lem Ended Ended s t room line block p q = tt
 one_turn_lem Ended CutShort s t room line block p q = omega arith
-one_turn_lem CutShort (Begun n) s t room line block p q = tt
+one_turn_lem CutShort Begun s t room line block p q = tt
 one_turn_lem CutShort Ended s t room line block p q = omega arith
 one_turn_lem CutShort CutShort s t room line block p q = tt
 
@@ -94,23 +92,23 @@ module _ (T : RattleType) (laws : Laws T) (print : Print.Ghosts T.Denot) (print_
     answer_read_unique κs a x y s t p q = one_turn_lem x y _ _ _ _ _ p q
 
 -- whether the arguments ask is known by their number
-abbrev OneAsked : Asked → Asked → Type 0
-OneAsked (Line m) (Line n) = Unit {0}
-OneAsked (Line m) Nothing = ⊥
-OneAsked Nothing (Line n) = ⊥
-OneAsked Nothing Nothing = Unit {0}
+abbrev OneAsked : Option (List ℕ) → Option (List ℕ) → Type 0
+OneAsked (Some m) (Some n) = Unit {0}
+OneAsked (Some m) None = ⊥
+OneAsked None (Some n) = ⊥
+OneAsked None None = Unit {0}
 
-one_asked : (x y : Asked) (count room : ℕ) → AskedBy x count room → AskedBy y count room → OneAsked x y
-one_asked (Line m) (Line n) count room p q = tt
-one_asked (Line m) Nothing count room p q = omega arith
-one_asked Nothing (Line n) count room p q = omega arith
-one_asked Nothing Nothing count room p q = tt
+one_asked : (x y : Option (List ℕ)) (count : ℕ) → AskedBy x count → AskedBy y count → OneAsked x y
+one_asked (Some m) (Some n) count p q = tt
+one_asked (Some m) None count p q = omega arith
+one_asked None (Some n) count p q = omega arith
+one_asked None None count p q = tt
 
 -- wherever its arguments come from
 module _ (T : RattleType) (laws : Laws T) (env : Env.Ghosts T.Denot) (env_table : Dict) where
-  pub join_arguments_unique : (κs : Lfts 3) (a : Dens κs (join_arguments_kinds.ps T laws)) (x y : (res_t (join_arguments_kinds.r T laws) κs).Denot)
-      (s t : AtExit (ended_of 3 (join_arguments_kinds.ps T laws) (join_arguments_kinds.r T laws)) κs)
+  pub join_arguments_unique : (κs : Lfts 2) (a : Dens κs (join_arguments_kinds.ps T laws)) (x y : (res_t (join_arguments_kinds.r T laws) κs).Denot)
+      (s t : AtExit (ended_of 2 (join_arguments_kinds.ps T laws) (join_arguments_kinds.r T laws)) κs)
       → join_arguments_reads.Post T laws env env_table κs a x s
       → join_arguments_reads.Post T laws env env_table κs a y t
       → OneAsked x y
-  join_arguments_unique κs a x y s t p q = one_asked x y _ _ p q
+  join_arguments_unique κs a x y s t p q = one_asked x y _ p q

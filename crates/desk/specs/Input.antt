@@ -1,15 +1,18 @@
 -- The desk's input: what is kept of a line until it ends, and what the arguments ask. What is read and written cannot be said, so each
 -- turn is held to what it does with the block that it has.
 -- Assumes nothing.
-use Rattle.std.specs.Prelude.{◌≡◌, List, [], ◌∷◌, ◌++◌, ℕ, ◌+◌, ◌≤◌, ◌<◌, ℤ, pos, negsuc, length, take, if◌then◌else◌}
+use Rattle.std.specs.Prelude.{◌≡◌, List, [], ◌∷◌, ◌++◌, ℕ, ◌+◌, ◌≤◌, ◌<◌, Option, Some, None, length, take, if◌then◌else◌}
 use Rattle.rows.specs.Choice.{◌<?◌, ◌=?◌}
 use Rattle.measure.specs.Epoch.{shoushi}
 use Rattle.frames.specs.LineEnds.{line_end}
+use Rattle.questions.specs.Question.{longest}
 use Rattle.ask.specs.AnswerText.{answer_text}
 use Rattle.desk.specs.declared.Turn.{Turn}
 use Rattle.desk.specs.declared.Turn.TheVariants.{Begun, Ended, CutShort}
-use Rattle.desk.specs.declared.Asked.{Asked}
-use Rattle.desk.specs.declared.Asked.TheVariants.{Line, Nothing}
+
+-- room for a line: one byte more than the longest that is answered
+abbrev pub line_room : ℕ
+line_room = longest + 1
 
 -- one byte more of a line; where there is no room it is dropped
 abbrev pub with_more : ℕ → List ℕ → ℕ → List ℕ
@@ -29,13 +32,11 @@ unfoldable pub last_text : List ℕ → List ℕ
 last_text [] = []
 last_text (b ∷ bs) = answer_text shoushi (b ∷ bs)
 
--- how a turn ends: the input has ended exactly where nothing was read; else the line's first bytes are what is kept of it, unless a
--- write failed
+-- how a turn ends: the input has ended exactly where nothing was read; else the line is what is kept of it, unless a write failed
 abbrev pub Left : Turn → List ℕ → ℕ → List ℕ → List ℕ → Type 0
-Left (Begun n) row room line block =
-    (0 < length block) × (n ≤ room) × (n ≡ length (kept_after room line block)) × (take n row ≡ kept_after room line block)
-Left Ended row room line block = length block ≡ 0
-Left CutShort row room line block = 0 < length block
+Left Begun after room line block = (0 < length block) × (after ≡ kept_after room line block)
+Left Ended after room line block = length block ≡ 0
+Left CutShort after room line block = 0 < length block
 
 -- a line before argument i: a blank stands before each but the first
 abbrev pub with_blank : ℕ → ℕ → List ℕ → List ℕ
@@ -45,12 +46,12 @@ with_blank room i line = if 1 <? i then with_more room line 0x20 else line
 abbrev pub Begins : List ℕ → List ℕ → Type 0
 Begins line first = take (length first) line ≡ first
 
--- how many bytes a line has with an argument after its first, where reading it gave this error: 0 is none, else the line counts as full
-abbrev pub with_argument : ℤ → ℕ → ℕ → ℕ → ℕ
-with_argument (pos e) from got room = if e =? 0 then from + got else room
-with_argument (negsuc e) from got room = room
+-- how many bytes a line has with an argument after its first, of which so many were got; where none were the line counts as full
+abbrev pub with_argument : Option ℕ → ℕ → ℕ → ℕ
+with_argument (Some got) from room = from + got
+with_argument None from room = room
 
 -- what so many arguments ask, the program's own name among them: nothing exactly where there is no other
-abbrev pub AskedBy : Asked → ℕ → ℕ → Type 0
-AskedBy (Line n) count room = (1 < count) × (n ≤ room)
-AskedBy Nothing count room = count ≤ 1
+abbrev pub AskedBy : Option (List ℕ) → ℕ → Type 0
+AskedBy (Some line) count = 1 < count
+AskedBy None count = count ≤ 1

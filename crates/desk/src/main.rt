@@ -2,26 +2,108 @@
 // The input comes by blocks, and each line is answered as it ends.
 #![tactic(auto)]
 
-ghost use Rattle.std.specs.Prelude.{◌≡◌, ◌+◌, ◌≤◌, ◌<◌, length, take};
+ghost use Rattle.std.specs.Prelude.{◌≡◌, ℕ, ◌+◌, ◌≤◌, ◌<◌, List, [], length, take, Option, unwrap_or};
 ghost use Rattle.rows.specs.Row.{over};
 ghost use Rattle.measure.specs.Epoch.{shoushi};
-ghost use Rattle.reads.specs.Given.{Within};
 ghost use Rattle.questions.specs.Question.{longest};
 ghost use Rattle.replies.specs.ListText.{years_room};
 ghost use Rattle.ask.specs.AnswerText.{answer_text};
-ghost use Rattle.desk.specs.Input.{with_more, last_text, Left, with_blank, with_argument, Begins, AskedBy};
+ghost use Rattle.desk.specs.Input.{line_room, with_more, last_text, Left, with_blank, with_argument, Begins, AskedBy};
 
 use ask::YEARS_ROOM;
 use frames::LINE_END;
-use reads::Got;
+use reads::BLOCK;
 use std::env::FillError;
 use std::io::Read;
+use std::marker::Model;
 use std::rt::Env;
 
-// How a turn ends: with so many bytes kept of a line that was begun, at the input's end, or by a failed write.
+// Room for a line: one byte more than the longest that is answered, so that a longer one is seen to be so.
+const LINE: usize = questions::LONGEST + 1;
+
+// A line, as far as there is room for it.
+#[derive(Drop)]
+struct Line {
+    row: [u8; LINE],
+    kept: usize,
+}
+
+impl Model for Line {
+    ghost Value = { List ℕ };
+
+    ghost view = { λ l. take l.kept l.row };
+
+    ghost invariant = { λ l. l.kept ≤ longest + 1 };
+}
+
+impl Line {
+    fn new() -> Self
+        ensures { result ≡ [] }
+    {
+        Line {
+            row: [0; LINE],
+            kept: 0,
+        }
+    }
+
+    fn bytes(&self) -> &[u8]
+        ensures { result.now ≡ self.now }
+    {
+        &self.row[..self.kept]
+    }
+
+    fn clear(&mut self)
+        ensures { self.new ≡ [] }
+    {
+        self.kept = 0;
+    }
+
+    // One byte more. A full line drops it: a line so long is refused.
+    fn keep(&mut self, b: u8)
+        ensures { self.new ≡ with_more line_room self.old b }
+    {
+        if self.kept < LINE {
+            self.row[self.kept] = b;
+            self.kept += 1;
+        }
+    }
+
+    // A blank before each argument but the first.
+    fn blank_before(&mut self, i: usize)
+        ensures { self.new ≡ with_blank line_room i self.old }
+    {
+        if i > 1 {
+            self.keep(b' ');
+        }
+    }
+
+    // Argument i after the bytes that are kept.
+    fn join(&mut self, rt: &impl Env, i: usize)
+        ensures { Begins self.new (with_blank line_room i self.old) }
+    {
+        self.blank_before(i);
+        let from = self.kept;
+        let got = rt.arg(i, &mut self.row[from..]).ok();
+        self.kept = with_argument(got, from, LINE);
+    }
+}
+
+// How many bytes a line has with an argument after its first. Where the argument did not fit the line is full, and is refused.
+fn with_argument(got: Option<usize>, from: usize, room: usize) -> usize
+    requires { from + unwrap_or got 0 ≤ room }
+    ensures value { result ≡ with_argument got from room }
+    ensures bounds { (from ≤ result) × (result ≤ room) }
+{
+    match got {
+        Some(n) => from + n,
+        None => room,
+    }
+}
+
+// How a turn ends: with a line that was begun, at the input's end, or by a failed write.
 #[derive(Clone, Copy)]
 enum Turn {
-    Begun(usize),
+    Begun,
     Ended,
     CutShort,
 }
@@ -38,6 +120,7 @@ fn answered(line: &[u8], buf: &mut [u8]) -> usize
 }
 
 // Writes out; whether all of it went through. Where it did not, standard error says so, and the program ends.
+// `month_lines` has it too: shared it would be public, and no contract can say what is written.
 fn write_out(rt: &(impl Print + Eprint), out: &[u8]) -> bool {
     let ok = rt.write_all(out).is_ok();
     if !ok {
@@ -54,143 +137,66 @@ fn answer_line(rt: &(impl Print + Eprint), line: &[u8], buf: &mut [u8]) -> bool
     write_out(rt, &buf[..n])
 }
 
-// One byte more of a line; how many are kept then. A full buffer drops the byte: a line so long is refused.
-fn keep(line: &mut [u8], kept: usize, b: u8) -> usize
-    requires { kept ≤ length line.old }
-    ensures within { result ≤ length line.old }
-    ensures value { result ≡ length (with_more (length line.old) (take kept line.old) b) }
-    ensures writes { line.new ≡ over (with_more (length line.old) (take kept line.old) b) line.old }
-{
-    if kept < line.len() {
-        line[kept] = b;
-        return kept + 1;
-    }
-    kept
-}
-
 // Answers the lines that end in a block, and keeps what it has of the next. A failed write ends it.
-fn answer_block(
-    rt: &(impl Print + Eprint),
-    block: &[u8],
-    line: &mut [u8],
-    kept: usize,
-    buf: &mut [u8],
-) -> Turn
-    requires { (0 < length block.now) × (kept ≤ length line.old) × (years_room ≤ length buf.old) }
-    ensures { Left result line.new (length line.old) (take kept line.old) block.now }
+fn answer_block(rt: &(impl Print + Eprint), block: &[u8], line: &mut Line, buf: &mut [u8]) -> Turn
+    requires { (0 < length block.now) × (years_room ≤ length buf.old) }
+    ensures { Left result line.new line_room line.old block.now }
 {
-    let mut n = kept;
-    let mut more = true;
-    let mut i: usize = 0;
-    while i < block.len() && more {
-        let b = block[i];
-        if b == LINE_END {
-            more = answer_line(rt, &line[0..n], buf);
-            n = 0;
+    for b in block {
+        if *b == LINE_END {
+            if !answer_line(rt, line.bytes(), buf) {
+                return Turn::CutShort;
+            }
+            line.clear();
         } else {
-            n = keep(line, n, b);
+            line.keep(*b);
         }
-        i += 1;
     }
-    if more { Turn::Begun(n) } else { Turn::CutShort }
+    Turn::Begun
 }
 
 // The text of the reply to the last line, where one was begun; how many bytes it has.
+#[tactic(auto, using(crate::proofs::Kept::no_line, crate::proofs::Kept::a_line, rows::proofs::Row::over_is))]
 fn last_reply(line: &[u8], buf: &mut [u8]) -> usize
     requires { years_room ≤ length buf.old }
     ensures within { result ≤ length buf.old }
     ensures value { result ≡ length (last_text line.now) }
     ensures buf_after { buf.new ≡ over (last_text line.now) buf.old }
 {
-    if line.len() == 0 {
+    if line.is_empty() {
         return 0;
     }
     answered(line, buf)
 }
 
 // A block as it was read. Where nothing was, the input has ended, and so has a line that was begun.
-fn answer_read(
-    rt: &(impl Print + Eprint),
-    block: &[u8],
-    line: &mut [u8],
-    kept: usize,
-    buf: &mut [u8],
-) -> Turn
-    requires { (kept ≤ length line.old) × (years_room ≤ length buf.old) }
-    ensures { Left result line.new (length line.old) (take kept line.old) block.now }
+fn answer_read(rt: &(impl Print + Eprint), block: &[u8], line: &mut Line, buf: &mut [u8]) -> Turn
+    requires { years_room ≤ length buf.old }
+    ensures { Left result line.new line_room line.old block.now }
 {
-    if block.len() == 0 {
-        let n = last_reply(&line[0..kept], buf);
+    if block.is_empty() {
+        let n = last_reply(line.bytes(), buf);
         write_out(rt, &buf[..n]);
         return Turn::Ended;
     }
-    answer_block(rt, block, line, kept, buf)
+    answer_block(rt, block, line, buf)
 }
 
-// Reads once.
-fn read_block(input: &mut impl Read, block: &mut [u8]) -> Got
-    ensures { Within result (length block.old) }
-{
-    let answered = match input.read(block) {
-        Ok(n) => n as isize,
-        Err(_) => -1,
-    };
-    reads::given(answered, block)
-}
-
-// Nothing says that the input ends, so the turns are counted down from a number that no run uses up. A failed read is told, and a line that
-// was begun has no reply then: its end was not seen.
-fn answer_lines(rt: &(impl Print + Eprint), input: &mut impl Read, line: &mut [u8], buf: &mut [u8])
+// Nothing says that the input ends, so the turns have a number that no run uses up. A failed read is told, and a line that was begun has
+// no reply then: its end was not seen.
+fn answer_lines(rt: &(impl Print + Eprint), input: &mut impl Read, buf: &mut [u8])
     requires { years_room ≤ length buf.old }
 {
-    let mut block = block_buffer();
-    let mut kept: usize = 0;
-    let mut turns = u64::MAX;
-    while turns > 0 {
-        let Got::Bytes(read) = read_block(input, &mut block) else {
+    let mut block = [0; BLOCK];
+    let mut line = Line::new();
+    for _ in 0..u64::MAX {
+        let Ok(read) = reads::read_once(input, &mut block) else {
             let _ = rt.eprintln("desk: the input could not be read to its end");
             return;
         };
-        let Turn::Begun(n) = answer_read(rt, &block[..read], line, kept, buf) else {
+        let Turn::Begun = answer_read(rt, &block[..read], &mut line, buf) else {
             return;
         };
-        kept = n;
-        turns -= 1;
-    }
-}
-
-// A blank before each argument but the first.
-fn blank_before(line: &mut [u8], n: usize, i: usize) -> usize
-    requires { n ≤ length line.old }
-    ensures within { result ≤ length line.old }
-    ensures value { result ≡ length (with_blank (length line.old) i (take n line.old)) }
-    ensures writes { line.new ≡ over (with_blank (length line.old) i (take n line.old)) line.old }
-{
-    if i > 1 {
-        return keep(line, n, b' ');
-    }
-    n
-}
-
-// How many bytes a line has with an argument after its first. Where the argument did not fit the line is full, and is refused.
-fn with_argument(error: i32, from: usize, got: usize, room: usize) -> usize
-    requires { from + got ≤ room }
-    ensures value { result ≡ with_argument error from got room }
-    ensures bounds { (from ≤ result) × (result ≤ room) }
-{
-    if error == 0 { from + got } else { room }
-}
-
-// Argument i, of so many, after the line's first n bytes; how many the line then has.
-fn join(rt: &impl Env, line: &mut [u8], n: usize, i: usize, count: usize) -> usize
-    requires { (n ≤ length line.old) × (i < count) }
-    ensures within { result ≤ length line.old }
-    ensures begins { Begins (take result line.new) (with_blank (length line.old) i (take n line.old)) }
-{
-    let from = blank_before(line, n, i);
-    match rt.arg(i, &mut line[from..]) {
-        Ok(got) => with_argument(0, from, got, line.len()),
-        Err(_) => with_argument(1, from, 0, line.len()),
     }
 }
 
@@ -205,57 +211,30 @@ fn argument_count(rt: &impl Env) -> usize {
     usize::MAX
 }
 
-// What the arguments ask: a line of so many bytes, or nothing where there are none.
-#[derive(Clone, Copy)]
-enum Asked {
-    Line(usize),
-    Nothing,
-}
-
-// The arguments as one line. The first is the program's own name.
-fn join_arguments(rt: &impl Env, line: &mut [u8], count: usize) -> Asked
-    ensures { AskedBy result count (length line.old) }
+// The arguments as one line, where there are any. The first is the program's own name.
+fn join_arguments(rt: &impl Env, count: usize) -> Option<Line>
+    ensures { AskedBy result count }
 {
-    let mut n: usize = 0;
-    let mut i: usize = 1;
-    while i < count {
-        n = join(rt, line, n, i, count);
-        i += 1;
+    if count <= 1 {
+        return None;
     }
-    if i == 1 {
-        return Asked::Nothing;
+    let mut line = Line::new();
+    for i in 1..count {
+        line.join(rt, i);
     }
-    Asked::Line(n)
+    Some(line)
 }
 
 // A question of the arguments where there are any, else those of the input's lines.
-fn answer(rt: &(impl Env + Print + Eprint), input: &mut impl Read, line: &mut [u8], buf: &mut [u8])
+fn answer(rt: &(impl Env + Print + Eprint), input: &mut impl Read, buf: &mut [u8])
     requires { years_room ≤ length buf.old }
 {
-    match join_arguments(rt, line, argument_count(rt)) {
-        Asked::Line(n) => {
-            answer_line(rt, &line[0..n], buf);
+    match join_arguments(rt, argument_count(rt)) {
+        Some(line) => {
+            answer_line(rt, line.bytes(), buf);
         }
-        Asked::Nothing => answer_lines(rt, input, line, buf),
+        None => answer_lines(rt, input, buf),
     }
-}
-
-// Room for a line: one byte more than the longest that is answered, so that a longer one is seen to be so.
-const LINE: usize = questions::LONGEST + 1;
-
-fn line_buffer() -> [u8; LINE]
-    ensures { longest + 1 ≡ length result }
-{
-    [0; LINE]
-}
-
-// Room for a block of the input.
-const BLOCK: usize = 65_536;
-
-fn block_buffer() -> [u8; BLOCK]
-    ensures { 65_536 ≡ length result }
-{
-    [0; BLOCK]
 }
 
 // Room for the longest reply.
@@ -267,7 +246,6 @@ fn reply_buffer() -> [u8; YEARS_ROOM]
 
 fn main(rt: HostRuntime) {
     let mut input = rt.stdin();
-    let mut line = line_buffer();
     let mut buf = reply_buffer();
-    answer(&rt, &mut input, &mut line, &mut buf);
+    answer(&rt, &mut input, &mut buf);
 }

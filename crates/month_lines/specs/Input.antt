@@ -1,14 +1,12 @@
 -- What was read, and what is done with it. What is read and written cannot be said, so each turn is held to what it has in hand.
 -- Assumes nothing.
-use Rattle.std.specs.Prelude.{Bool, ◌≡◌, List, [], ◌++◌, ℕ, length, take, if◌then◌else◌}
+use Rattle.std.specs.Prelude.{Bool, true, false, Option, Some, None, ◌≡◌, List, [], ◌++◌, ℕ, length, if◌then◌else◌}
 use Rattle.rows.specs.Choice.{◌=?◌}
 use Rattle.measure.specs.Epoch.{shoushi}
 use Rattle.lines.specs.Line.{output}
 use Rattle.lines.specs.Block.{kept_of, written, block_of}
 use Rattle.month_lines.specs.declared.Read.{Read}
 use Rattle.month_lines.specs.declared.Read.TheVariants.{Last, Part}
-use Rattle.month_lines.specs.declared.Turn.{Turn}
-use Rattle.month_lines.specs.declared.Turn.TheVariants.{Kept, Over}
 
 -- of the bytes in hand so many were kept: where there are no more, they are the last line; else a block
 unfoldable pub read_of : ℕ → List ℕ → Read
@@ -27,16 +25,15 @@ replies_in (Last n) = n
 replies_in (Part b) = b.written
 
 -- how a turn ends, by what was read and whether the replies went out: a block that was answered leaves a line to go on with
-abbrev pub turn_after : Read → Bool → Turn
-turn_after (Last n) went = Over
-turn_after (Part b) went = if went then Kept b.kept else Over
+abbrev pub turn_after : Read → Bool → Option ℕ
+turn_after (Last n) went = None
+turn_after (Part b) went = if went then Some b.kept else None
 
--- what a turn left at the buffer's start: what is kept of the bytes that were there and of more that were read
-pub record LeftOf (begun : List ℕ) (n : ℕ) (buf : List ℕ) : Type 0 where
+-- what a turn left: what is kept of the bytes that were there and of more that were read
+pub record LeftOf (begun after : List ℕ) : Type 0 where
   pub more : List ℕ
-  pub counted : n ≡ length (kept_of (begun ++ more))
-  pub left : take n buf ≡ kept_of (begun ++ more)
+  pub left : after ≡ kept_of (begun ++ more)
 
-abbrev pub Left : Turn → List ℕ → List ℕ → Type 0
-Left (Kept n) begun buf = LeftOf begun n buf
-Left Over begun buf = Unit {0}
+abbrev pub Left : Bool → List ℕ → List ℕ → Type 0
+Left true begun after = LeftOf begun after
+Left false begun after = Unit {0}

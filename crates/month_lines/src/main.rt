@@ -1,7 +1,7 @@
 // Reads days from standard input, a line each, and writes the month of each to standard output.
 #![tactic(auto)]
 
-ghost use Rattle.std.specs.Prelude.{◌≡◌, ◌*◌, ◌-◌, ◌≤◌, length, take};
+ghost use Rattle.std.specs.Prelude.{◌≡◌, ℕ, ◌*◌, ◌-◌, ◌≤◌, List, [], length, take};
 ghost use Rattle.rows.specs.Row.{over};
 ghost use Rattle.reads.specs.Given.{Within};
 ghost use Rattle.lines.specs.Line.{reply_room};
@@ -10,8 +10,9 @@ ghost use Rattle.month_lines.specs.Input.{read_of, written_for, kept_for, replie
 
 use lines::REPLY_ROOM;
 use lines::blocks::Block;
-use reads::Got;
+use reads::{BLOCK, ReadFailed};
 use std::io::Read as ReadBytes;
+use std::marker::Model;
 
 // What was read: no more, so that the last line was answered in so many bytes; or a block, which was answered.
 #[derive(Clone, Copy)]
@@ -20,46 +21,20 @@ enum Read {
     Part(Block),
 }
 
-// How a turn ends: with so many bytes of an unfinished line at the buffer's start, or all is over.
-#[derive(Clone, Copy)]
-enum Turn {
-    Kept(usize),
-    Over,
-}
-
-const BUFFER: usize = 65_536;
-
-const ROOM: usize = REPLY_ROOM * BUFFER;
-
-// Room for a block of the input.
-fn block_buffer() -> [u8; BUFFER]
-    ensures { 65_536 ≡ length result }
-{
-    [0; BUFFER]
-}
-
 // Room for the replies to a full buffer.
-fn reply_buffer() -> [u8; ROOM]
-    ensures { 196_608 ≡ length result }
-{
-    [0; ROOM]
-}
+const ROOM: usize = REPLY_ROOM * BLOCK;
 
 // Reads once, after the kept bytes, which stay.
-fn read_more(input: &mut impl ReadBytes, buf: &mut [u8], kept: usize) -> Got
+fn read_more(input: &mut impl ReadBytes, buf: &mut [u8], kept: usize) -> Result<usize, ReadFailed>
     requires { kept ≤ length buf.old }
     ensures within { Within result (length buf.old - kept) }
     ensures buf_unchanged { take kept buf.new ≡ take kept buf.old }
 {
-    let part = &mut buf[kept..];
-    let answered = match input.read(part) {
-        Ok(n) => n as isize,
-        Err(_) => -1,
-    };
-    reads::given(answered, part)
+    reads::read_once(input, &mut buf[kept..])
 }
 
 // Writes out; whether all of it went through. Where it did not, standard error says so, and the program ends.
+// `desk` has it too: shared it would be public, and no contract can say what is written.
 fn write_out(rt: &(impl Print + Eprint), out: &[u8]) -> bool {
     let ok = rt.write_all(out).is_ok();
     if !ok {
@@ -91,57 +66,75 @@ fn replies_in(read: Read) -> usize
     }
 }
 
-// How a turn ends, where the replies went out or did not.
-fn turn_after(read: Read, went: bool) -> Turn
+// How a turn ends, where the replies went out or did not: with so many bytes of an unfinished line at the buffer's start, or all is over.
+fn turn_after(read: Read, went: bool) -> Option<usize>
     ensures { result ≡ turn_after read went }
 {
     match read {
-        Read::Last(_) => Turn::Over,
-        Read::Part(block) => {
-            if went {
-                Turn::Kept(block.kept)
-            } else {
-                Turn::Over
-            }
-        }
+        Read::Part(block) if went => Some(block.kept),
+        _ => None,
     }
 }
 
-// One turn: reads, and writes the replies to what was read. A failed write ends it, and a failed read, which is told; a line that was begun
-// has no reply then: its end was not seen.
-fn one_turn(
-    rt: &(impl Print + Eprint),
-    input: &mut impl ReadBytes,
-    buf: &mut [u8],
-    out: &mut [u8],
+// An unfinished line, or enough of it: its first bytes stand at the buffer's start.
+#[derive(Drop)]
+struct Begun {
+    buf: [u8; BLOCK],
     kept: usize,
-) -> Turn
-    requires kept_le_enough { (kept ≤ enough) × (enough ≤ length buf.old) × (reply_room * length buf.old ≤ length out.old) }
-    requires unfinished { Unfinished (take kept buf.old) }
-    ensures { Left result (take kept buf.old) buf.new }
-{
-    let Got::Bytes(more) = read_more(input, buf, kept) else {
-        let _ = rt.eprintln("month_lines: the input could not be read to its end");
-        return Turn::Over;
-    };
-    let read = answer_read(buf, kept, kept + more, out);
-    let n = replies_in(read);
-    let went = write_out(rt, &out[..n]);
-    turn_after(read, went)
 }
 
-// Nothing says that the input ends, so the turns are counted down from a number that no run uses up.
+impl Model for Begun {
+    ghost Value = { List ℕ };
+
+    ghost view = { λ b. take b.kept b.buf };
+
+    ghost invariant = { λ b. (b.kept ≤ enough) × Unfinished (take b.kept b.buf) };
+}
+
+impl Begun {
+    #[tactic(auto, using(crate::proofs::ReadLaws::none_unfinished))]
+    fn new() -> Self
+        ensures { result ≡ [] }
+    {
+        Begun {
+            buf: [0; BLOCK],
+            kept: 0,
+        }
+    }
+
+    // One turn: reads, and writes the replies to what was read; whether there is another. A failed write ends it, and a failed read, which
+    // is told; a line that was begun has no reply then: its end was not seen.
+    #[tactic(auto, using(crate::proofs::ReadLaws::replies_within))]
+    fn turn(
+        &mut self,
+        rt: &(impl Print + Eprint),
+        input: &mut impl ReadBytes,
+        out: &mut [u8; ROOM],
+    ) -> bool
+        ensures { Left result self.old self.new }
+    {
+        let kept = self.kept;
+        let Ok(more) = read_more(input, &mut self.buf, kept) else {
+            let _ = rt.eprintln("month_lines: the input could not be read to its end");
+            return false;
+        };
+        let read = answer_read(&mut self.buf, kept, kept + more, out);
+        let n = replies_in(read);
+        let went = write_out(rt, &out[..n]);
+        let after = turn_after(read, went);
+        self.kept = after.unwrap_or(0);
+        after.is_some()
+    }
+}
+
+// Nothing says that the input ends, so the turns have a number that no run uses up.
 fn main(rt: HostRuntime) {
     let mut input = rt.stdin();
-    let mut buf = block_buffer();
-    let mut out = reply_buffer();
-    let mut kept: usize = 0;
-    let mut turns = u64::MAX;
-    while turns > 0 {
-        let Turn::Kept(n) = one_turn(&rt, &mut input, &mut buf, &mut out, kept) else {
+    let mut begun = Begun::new();
+    let mut out = [0; ROOM];
+    for _ in 0..u64::MAX {
+        if !begun.turn(&rt, &mut input, &mut out) {
             return;
-        };
-        kept = n;
-        turns -= 1;
+        }
     }
 }

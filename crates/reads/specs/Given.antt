@@ -1,8 +1,7 @@
 -- What a read gave, by the number that it answered.
 -- Assumes nothing.
-use Rattle.std.specs.Prelude.{ℕ, ◌≤◌, min, ℤ, pos, negsuc}
-use Rattle.reads.specs.declared.Got.{Got}
-use Rattle.reads.specs.declared.Got.TheVariants.{Bytes, Failed}
+use Rattle.std.specs.Prelude.{ℕ, ◌≤◌, min, ℤ, pos, negsuc, Result, Ok, Err}
+use Rattle.reads.specs.declared.ReadFailed.{ReadFailed}
 
 -- so many bytes at the row's start, none where the input has ended; or nothing, since the read failed
 pub data Given : Type 0 where
@@ -15,11 +14,11 @@ given (pos n) room = bytes (min n room)
 given (negsuc n) room = failed
 
 -- what each case stands for
-abbrev pub got_said : Got → Given
-got_said (Bytes n) = bytes n
-got_said Failed = failed
+abbrev pub got_said : Result ℕ ReadFailed → Given
+got_said (Ok n) = bytes n
+got_said (Err e) = failed
 
 -- the bytes lie in a row of so many
-abbrev pub Within : Got → ℕ → Type 0
-Within (Bytes n) room = n ≤ room
-Within Failed room = Unit {0}
+abbrev pub Within : Result ℕ ReadFailed → ℕ → Type 0
+Within (Ok n) room = n ≤ room
+Within (Err e) room = Unit {0}

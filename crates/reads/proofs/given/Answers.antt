@@ -1,18 +1,28 @@
--- `reads::given` meets its contract: the number is below 0, or from 0 on. Assumes nothing.
-use Rattle.std.proofs.Common.{◌≡◌, ◌∙◌, ap, length, min, nat_abs, pos, ℤ, to_z, of_z, w64}
+-- `reads::given` meets its contract: a number from 0 on is a `usize`, and one below 0 is none. Assumes nothing.
+use Rattle.std.proofs.Common.{◌≡◌, ◌∙◌, ap, ℕ, ℤ, pos, negsuc, nat_abs, min, refl, w64, arith}
+use Rattle.std.specs.Int.{FitsUnsignedBits}
+use mir.Val.{SFits}
 use mir.Facts.{to_z-of_z}
-use Rattle.signed.proofs.Signs.{below_zero, from_zero}
-use Rattle.reads.specs.Given.{bytes, given}
+use Rattle.reads.specs.Given.{bytes, failed, given}
 use Rattle.reads.proofs.given.Goals as goal
 
-pub returns-then-answered-lt0-clause-value : goal.returns-then-answered-lt0-clause-value
+from_zero : (z : ℤ) (n room least : ℕ) → FitsUnsignedBits 64 z → n ≡ nat_abs z → least ≡ min n room → bytes least ≡ given z room
 unfolding given
-returns-then-answered-lt0-clause-value c = rw (below_zero c.args.answered c.ranges.answered c.if-answered-lt0.true).is
+from_zero (pos k) n room least fits e f = ap bytes (f ∙ ap (λ (m : ℕ). min m room) e)
+from_zero (negsuc k) n room least fits e f = absurd fits
 
-pub returns-clause-value : goal.returns-clause-value
+below_zero : (z : ℤ) (room : ℕ) → SFits w64 z → (FitsUnsignedBits 64 z → ⊥) → failed ≡ given z room
 unfolding given
-returns-clause-value c =
-    let z = c.args.answered in
-    let h = from_zero z c.ranges.answered c.if-answered-lt0.false in
-    let e : to_z w64 (of_z w64 z) ≡ pos h.size = to_z-of_z c.ranges.answered ∙ h.is in
-    rw (h.is) (ap bytes (c.min.ensures ∙ ap (λ (x : ℤ). min (nat_abs x) (length c.args.row.now)) e))
+below_zero (pos k) room f h = absurd (h (omega (arith, f.sfits)))
+below_zero (negsuc k) room f h = refl
+
+pub returns-in-Ok-clause-value : goal.returns-in-Ok-clause-value
+returns-in-Ok-clause-value c =
+    let back = to_z-of_z c.ranges.answered in
+    let told = simp back at c.in-Ok.ensures in
+    from_zero c.args.answered _ _ _ told.0 told.1 c.min.ensures
+
+pub returns-in-Err-clause-value : goal.returns-in-Err-clause-value
+returns-in-Err-clause-value c =
+    let back = to_z-of_z c.ranges.answered in
+    below_zero c.args.answered _ c.ranges.answered (simp back at c.in-Err.ensures)
