@@ -1,13 +1,12 @@
 // Mean and true moons: a lunation and its quarter, with both inequalities and the correction.
 #![tactic(auto)]
 
-ghost use Rattle.std.specs.Prelude.{◌||◌, ◌≡◌, ◌<◌};
-ghost use Rattle.rows.specs.Choice.{◌<?◌};
-ghost use Rattle.rows.specs.Reply.{answer_said};
+ghost use Rattle.std.specs.Prelude.{◌≡◌, ℕ, ◌<◌};
+ghost use Rattle.rows.specs.Reply.{number_of, reply_of, answer_said};
 ghost use Rattle.measure.specs.Units.{year, anomalistic_month};
 ghost use Rattle.measure.specs.Epoch.{shoushi};
 ghost use Rattle.signed.specs.Signed.{integer, as_integer};
-ghost use Rattle.moons.specs.Lunation.{last_lunation, last_quarter, Counted, mean, mean_reply, solar_time, anomaly};
+ghost use Rattle.moons.specs.Lunation.{of_quarter, Counted, mean, mean_reply, solar_time, anomaly};
 ghost use Rattle.moons.specs.TrueMoon.{correction, correction_of, true_moon, solar_reply, lunar_reply, motion_reply, correction_reply, true_reply};
 
 use measure::{
@@ -26,60 +25,42 @@ const LAST_QUARTER: u64 = 3;
 pub fn mean(l: u64, q: u64) -> Result<u64, Refusal>
     ensures { answer_said result ≡ mean_reply shoushi l q }
 {
-    if outside(l, q) {
-        return Err(Refusal::Outside);
-    }
-    Ok(mean_time(l, q))
+    Ok(Quarter::asked(l, q)?.mean())
 }
 
 // The solar inequality.
 pub fn solar(l: u64, q: u64) -> Result<i64, Refusal>
     ensures { answer_said result ≡ as_integer (solar_reply shoushi l q) }
 {
-    if outside(l, q) {
-        return Err(Refusal::Outside);
-    }
-    Ok(inequalities::solar::solar(solar_time(l, q)))
+    Ok(inequalities::solar::solar(Quarter::asked(l, q)?.solar_time()))
 }
 
 // The lunar inequality.
 pub fn lunar(l: u64, q: u64) -> Result<i64, Refusal>
     ensures { answer_said result ≡ as_integer (lunar_reply shoushi l q) }
 {
-    if outside(l, q) {
-        return Err(Refusal::Outside);
-    }
-    Ok(inequalities::lunar::lunar(anomaly(l, q)))
+    Ok(inequalities::lunar::lunar(Quarter::asked(l, q)?.anomaly()))
 }
 
 // The moon's motion.
 pub fn motion(l: u64, q: u64) -> Result<u64, Refusal>
     ensures { answer_said result ≡ motion_reply shoushi l q }
 {
-    if outside(l, q) {
-        return Err(Refusal::Outside);
-    }
-    Ok(inequalities::motions::motion(anomaly(l, q)))
+    Ok(inequalities::motions::motion(Quarter::asked(l, q)?.anomaly()))
 }
 
 // The correction.
 pub fn correction(l: u64, q: u64) -> Result<i64, Refusal>
     ensures { answer_said result ≡ as_integer (correction_reply shoushi l q) }
 {
-    if outside(l, q) {
-        return Err(Refusal::Outside);
-    }
-    Ok(correction_of(l, q))
+    Ok(Quarter::asked(l, q)?.correction())
 }
 
 // The true moon's running time.
 pub fn true_moon(l: u64, q: u64) -> Result<u64, Refusal>
     ensures { answer_said result ≡ true_reply shoushi l q }
 {
-    if outside(l, q) {
-        return Err(Refusal::Outside);
-    }
-    Ok(true_time(l, q))
+    Ok(Quarter::asked(l, q)?.true_time())
 }
 
 // The true moon's running time, for a caller that counts lunations itself. No question of the calendar's.
@@ -87,55 +68,67 @@ pub fn true_time(l: u64, q: u64) -> u64
     requires { Counted l q }
     ensures { result ≡ true_moon shoushi l q }
 {
-    (mean_time(l, q) as i64 + correction_of(l, q)) as u64
-}
-
-// Whether the lunation or the quarter is past its last.
-fn outside(l: u64, q: u64) -> bool
-    ensures { result ≡ ((last_lunation <? l) || (last_quarter <? q)) }
-{
-    LAST_LUNATION < l || LAST_QUARTER < q
+    Quarter { l, q }.true_time()
 }
 
 // The mean new moon of lunation 0.
 pub const MEAN_START: u64 = SOLSTICE_EPOCH - LEAP_EPOCH;
 
-// The mean moon's running time.
-fn mean_time(l: u64, q: u64) -> u64
-    requires { Counted l q }
-    ensures { result ≡ mean shoushi l q }
-{
-    MEAN_START + l * MONTH + q * QUARTER_STEP
-}
-
 const SOLAR_START: u64 = HALF_YEAR - LEAP_EPOCH;
-
-// The time in the solar year, which the slow half begins.
-fn solar_time(l: u64, q: u64) -> u64
-    requires { Counted l q }
-    ensures { result ≡ solar_time shoushi l q }
-{
-    (SOLAR_START + l * MONTH + q * QUARTER_STEP) % YEAR
-}
 
 const ANOMALY_START: u64 = (ANOMALY_EPOCH + 2 * ANOMALISTIC_MONTH - LEAP_EPOCH) % ANOMALISTIC_MONTH;
 
 const ANOMALY_ADVANCE: u64 = MONTH - ANOMALISTIC_MONTH;
 
-// The time in the anomalistic month, which the quick half begins.
-fn anomaly(l: u64, q: u64) -> u64
-    requires { Counted l q }
-    ensures { result ≡ anomaly shoushi l q }
-{
-    (ANOMALY_START + l * ANOMALY_ADVANCE + q * QUARTER_STEP) % ANOMALISTIC_MONTH
+// Quarter q of lunation l, where both are counted.
+#[derive(Clone, Copy)]
+struct Quarter {
+    l: u64,
+    q: u64,
+    ghost counted: { Counted l q },
 }
 
-// The correction of a quarter.
-fn correction_of(l: u64, q: u64) -> i64
-    requires { Counted l q }
-    ensures { result ≡ integer (correction_of shoushi l q) }
-{
-    correction_at(solar_time(l, q), anomaly(l, q))
+impl Quarter {
+    fn asked(l: u64, q: u64) -> Result<Quarter, Refusal>
+        ensures { reply_of {B = ℕ × ℕ} (λ at. (at.l, at.q)) number_of result ≡ of_quarter l q (l, q) }
+    {
+        if LAST_LUNATION < l || LAST_QUARTER < q {
+            return Err(Refusal::Outside);
+        }
+        Ok(Quarter { l, q })
+    }
+
+    fn mean(self) -> u64
+        ensures { result ≡ mean shoushi self.l self.q }
+    {
+        MEAN_START + self.l * MONTH + self.q * QUARTER_STEP
+    }
+
+    // The time in the solar year, which the slow half begins.
+    fn solar_time(self) -> u64
+        ensures { result ≡ solar_time shoushi self.l self.q }
+    {
+        (SOLAR_START + self.l * MONTH + self.q * QUARTER_STEP) % YEAR
+    }
+
+    // The time in the anomalistic month, which the quick half begins.
+    fn anomaly(self) -> u64
+        ensures { result ≡ anomaly shoushi self.l self.q }
+    {
+        (ANOMALY_START + self.l * ANOMALY_ADVANCE + self.q * QUARTER_STEP) % ANOMALISTIC_MONTH
+    }
+
+    fn correction(self) -> i64
+        ensures { result ≡ integer (correction_of shoushi self.l self.q) }
+    {
+        correction_at(self.solar_time(), self.anomaly())
+    }
+
+    fn true_time(self) -> u64
+        ensures { result ≡ true_moon shoushi self.l self.q }
+    {
+        (self.mean() as i64 + self.correction()) as u64
+    }
 }
 
 const CORRECTION_FACTOR: i64 = 8_200_000;

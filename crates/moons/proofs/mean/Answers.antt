@@ -1,16 +1,18 @@
 -- `moons::mean` meets its contract. Assumes nothing.
-use mathlib.Core.Path.{◌∙◌, sym, ap}
-use Rattle.rows.specs.Reply.{answer}
-use Rattle.moons.specs.Lunation.{mean_reply}
-use Rattle.moons.proofs.Admitted.{one_refusal}
+use mathlib.Core.Path.{◌∙◌, ap}
+use Rattle.rows.specs.Reply.{answer, answer_said}
+use Rattle.rows.proofs.Refused.{handed_on}
+use Rattle.measure.specs.Epoch.{shoushi}
+use Rattle.moons.specs.Lunation.{mean, mean_reply}
+use Rattle.moons.proofs.Admitted.{asked_as}
 use Rattle.moons.proofs.mean.Goals as goal
 
-pub returns-then-outside : goal.returns-then-outside
+pub returns-in_err-asked : goal.returns-in_err-asked
 unfolding mean_reply
-returns-then-outside c =
-    rw (one_refusal, sym c.outside.ensures ∙ c.if-outside.true)
+returns-in_err-asked c =
+    ap answer_said (handed_on _ c.from_residual.result c.from_residual.ensures.1) ∙ (asked_as (mean shoushi) c.args.l c.args.q _ c.in_err-asked.ensures)
 
 pub returns : goal.returns
 unfolding mean_reply
 returns c =
-    rw (one_refusal, sym c.outside.ensures ∙ c.if-outside.false) (ap answer c.mean_time.ensures)
+    ap answer c.mean.ensures ∙ asked_as (mean shoushi) c.args.l c.args.q _ c.in_ok-asked.ensures

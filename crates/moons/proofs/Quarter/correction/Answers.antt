@@ -1,10 +1,10 @@
--- `moons::correction_of` meets its contract. Assumes nothing.
+-- `moons::Quarter::correction` meets its contract. Assumes nothing.
 use mathlib.Core.Path.{◌∙◌}
 use Rattle.measure.specs.Epoch.{shoushi}
 use Rattle.signed.proofs.Integers.{held_as}
 use Rattle.moons.specs.TrueMoon.{correction_of}
 use Rattle.moons.proofs.Times.{solar_time_lt, anomaly_lt}
-use Rattle.moons.proofs.correction_of.Goals as goal
+use Rattle.moons.proofs.Quarter.correction.Goals as goal
 
 pub correction_at-requires : goal.correction_at-requires
 correction_at-requires c =
