@@ -1,7 +1,6 @@
--- Month records as structs: the lists of the months, read four numbers a record, and how many an answer tells of.
+-- Month records as structs: the lists of the months, read four numbers a record.
 -- Assumes nothing.
 use Rattle.std.specs.Prelude.{List, [], ◌∷◌, ℕ, get_or}
-use Rattle.rows.specs.Reply.{Reply, answer, refused}
 use Rattle.records.specs.declared.MonthRecord.{MonthRecord}
 
 -- the record that four numbers are
@@ -19,8 +18,3 @@ in_records (a ∷ b ∷ c ∷ d ∷ rest) = as_record a b c d ∷ in_records res
 -- the one at its start
 unfoldable pub record_in : List ℕ → MonthRecord
 record_in numbers = as_record (get_or numbers 0 0) (get_or numbers 1 0) (get_or numbers 2 0) (get_or numbers 3 0)
-
--- how many records an answer tells of
-abbrev pub written_in : Reply ℕ → ℕ
-written_in (answer n) = n
-written_in (refused k) = 0

@@ -1,22 +1,20 @@
 // A year's list and a run of years, as month records in a lent row of structs.
 #![tactic(auto)]
 
-ghost use Rattle.std.specs.Prelude.{◌≡◌, suc, ◌+◌, ◌≤◌, length};
+ghost use Rattle.std.specs.Prelude.{◌≡◌, ◌≤◌, length};
 ghost use Rattle.rows.specs.Reply.{answer_said};
 ghost use Rattle.rows.specs.Row.{row_after};
-ghost use Rattle.measure.specs.Units.{last_year};
 ghost use Rattle.measure.specs.Epoch.{shoushi};
 ghost use Rattle.moons.specs.Lunation.{last_lunation};
-ghost use Rattle.month_law.specs.Calendar.{head, months_in};
+ghost use Rattle.month_law.specs.Calendar.{months_in};
 ghost use Rattle.edition.specs.Edition.{calendar};
 ghost use Rattle.lists.specs.Records.{record_of, records_of};
 ghost use Rattle.lists.specs.Lists.{run_of, list_reply, run_reply};
-ghost use Rattle.records.specs.MonthRecords.{record_in, in_records, written_in};
+ghost use Rattle.records.specs.MonthRecords.{record_in, in_records};
 
 use edition::first_day;
 use lists::year_rows::RECORD_WIDTH;
-use measure::LAST_YEAR;
-use months::Span;
+use months::{Span, head_of};
 use rows::Refusal;
 
 #[derive(Clone, Copy)]
@@ -44,6 +42,7 @@ impl From<[u64; RECORD_WIDTH]> for MonthRecord {
 
 // The records of year n from the row's start; how many there are. A year past the last is refused with 1, then a row that is too short
 // with 4.
+#[tactic(auto, using(lists::proofs::Asked::reply_of_one, lists::proofs::Asked::run_of_one))]
 pub fn year_records(n: u64, row: &mut [MonthRecord]) -> Result<u64, Refusal>
     ensures { (answer_said result ≡ list_reply shoushi n (length row.old))
         × (row.new ≡ row_after (list_reply shoushi n (length row.old)) (in_records (records_of (calendar shoushi) n (months_in (calendar shoushi) n))) row.old) }
@@ -58,53 +57,24 @@ pub fn run_records(n: u64, count: u64, row: &mut [MonthRecord]) -> Result<u64, R
     ensures { (answer_said result ≡ run_reply shoushi n count (length row.old))
         × (row.new ≡ row_after (run_reply shoushi n count (length row.old)) (in_records (run_of (calendar shoushi) n count)) row.old) }
 {
-    let reply = run_reply(n, count, row.len());
-    let months = written_in(reply);
-    let start = head_for(n);
-    for (i, slot) in row[..months].iter_mut().enumerate() {
-        *slot = record_of(start, i);
+    lists::run_asked(n, count, row.len() as u64)?;
+    let start = head_of(n);
+    let months = head_of(n + count) - start;
+    for (i, slot) in row[..months as usize].iter_mut().enumerate() {
+        *slot = record_of(start + i as u64);
     }
-    reply
+    Ok(months)
 }
 
-// The record of the month that is i after month l.
-fn record_of(l: u64, i: usize) -> MonthRecord
-    requires { l + i ≤ last_lunation }
-    ensures { result ≡ record_in (record_of (calendar shoushi) (l + i)) }
+// The record of month l.
+fn record_of(l: u64) -> MonthRecord
+    requires { l ≤ last_lunation }
+    ensures { result ≡ record_in (record_of (calendar shoushi) l) }
 {
-    let month = l + i as u64;
     let span = Span {
-        lunation: month,
-        first: first_day(month),
-        next: first_day(month + 1),
+        lunation: l,
+        first: first_day(l),
+        next: first_day(l + 1),
     };
     MonthRecord::from(lists::year_rows::record_of(span))
-}
-
-// The reply to a run where the row has room for so many records.
-fn run_reply(n: u64, count: u64, room: usize) -> Result<u64, Refusal>
-    ensures { answer_said result ≡ run_reply shoushi n count room }
-{
-    lists::run_asked(n, count, room as u64)?;
-    Ok(head_for(n + count) - head_for(n))
-}
-
-// How many records a reply tells of: none where it refuses.
-fn written_in(reply: Result<u64, Refusal>) -> usize
-    ensures { result ≡ written_in (answer_said reply) }
-{
-    match reply {
-        Ok(months) => months as usize,
-        Err(_) => 0,
-    }
-}
-
-// The head of year n; 0 stands for that of a year past the one after the last.
-fn head_for(n: u64) -> u64
-    ensures { n ≤ suc last_year → result ≡ head (calendar shoushi) n }
-{
-    if LAST_YEAR + 1 < n {
-        return 0;
-    }
-    months::head_of(n)
 }
