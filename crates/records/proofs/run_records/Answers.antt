@@ -78,7 +78,7 @@ pub record_of-requires : goal.record_of-requires
 record_of-requires c =
     let at = goal.at.record_of-requires c in
     let ok = admitted at.In_ok-run_asked in
-    (plan at.After-head_of ok).counted c.loop-i.i (omega (arith, front at.After-head_of ok))
+    omega (arith, (plan at.After-head_of ok).counted c.loop-i.i (omega (arith, front at.After-head_of ok)))
 
 pub loop-i-preserved : goal.loop-i-preserved
 loop-i-preserved c =
