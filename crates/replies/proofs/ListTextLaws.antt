@@ -10,13 +10,12 @@ use lib.ListN.{length, take, drop, length-drop, take-append-drop}
 use lib.Seq.{length-take-le, take_all, drop_at, drop-drop}
 use Rattle.rows.specs.Reply.{Reply, answer, refused}
 use Rattle.rows.specs.Row.{over}
-use Rattle.lists.specs.Records.{record_width}
 use Rattle.words.specs.Ascii.{bytes_of}
 use Rattle.texts.specs.Text.{piece, numbers_taken, holes, filled}
 use Rattle.texts.proofs.TextLaws.{holes_append, filled_append, filled_enough}
 use Rattle.questions.specs.DeskReply.{Few}
-use Rattle.replies.specs.LineText.{item_at, items_of, number_item}
-use Rattle.replies.specs.ListText.{items_text, record_item, ItemsTake, HasRoom}
+use Rattle.replies.specs.LineText.{item_at, items_of}
+use Rattle.replies.specs.ListText.{items_text, ItemsTake, HasRoom}
 
 -- what is written is the text
 pub told_so : {new text now : List ℕ} {r : ℕ} (row : List ℕ) → new ≡ text → (r ≡ length new) × (now ≡ over new row)
@@ -45,16 +44,11 @@ one_more each i = rw (add-one i, mul-suc each i)
 pub next_item : (each i k : ℕ) → i < k → each * i + each ≤ each * k
 next_item each i k h = omega (arith, mul-suc each i, mul-le-mul_left each h)
 
--- how many numbers the items of our lists take
-pub number_takes : ItemsTake number_item 1
-unfolding item_at holes numbers_taken
-number_takes zero = refl
-number_takes (suc i) = refl
-
-pub record_takes : ItemsTake record_item record_width
-unfolding item_at holes numbers_taken
-record_takes zero = refl
-record_takes (suc i) = refl
+-- a template takes as many numbers with its blank as without it
+pub item_takes : (item : List ℕ) (w : ℕ) → holes item ≡ w → holes (drop 1 item) ≡ w → ItemsTake item w
+unfolding item_at
+item_takes item w all rest zero = rest
+item_takes item w all rest (suc i) = all
 
 module _ (item : List ℕ) (w : ℕ) (takes : ItemsTake item w) where
   items_take : (k : ℕ) → holes (items_of item k) ≡ w * k

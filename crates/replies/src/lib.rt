@@ -11,15 +11,16 @@ ghost use Rattle.replies.specs.LineText.{line_room};
 ghost use Rattle.replies.specs.ReplyText.{constants_text, help_text, reply_text, room_of};
 
 use crate::line_texts::{
-    put_days, put_hour, put_moment, put_month, put_name, put_one, put_refusal, put_signed,
+    put_days, put_hour, put_moment, put_month, put_name, put_number, put_refusal, put_signed,
 };
-use crate::list_texts::{put_list, put_months};
+use crate::list_texts::put_items;
+use lists::year_rows::RECORD_WIDTH;
 use questions::DeskAnswer;
 use rows::{Numbered, Refusal};
 use texts::fill;
 
 // The line of an answer, from the row's start; how many bytes it has. Whoever asks has shown that the row has room for it.
-#[tactic(auto, using(crate::proofs::ListTextLaws::few_fit), unfolding(crate::specs::ReplyText::reply_text, crate::specs::ReplyText::room_of))]
+#[tactic(auto, using(crate::proofs::ListTextLaws::few_fit, crate::proofs::ListTextLaws::item_takes), unfolding(crate::specs::ReplyText::reply_text, crate::specs::ReplyText::room_of, texts::specs::Text::holes, texts::specs::Text::numbers_taken))]
 pub fn put_reply<R: Numbered>(r: DeskAnswer<R>, numbers: &[u64], row: &mut [u8]) -> usize
     requires { (line_room ≤ length row.old) × Lies R.number r (length numbers.now) × (room_of (desk_said R.number r numbers.now) ≤ length row.old) }
     ensures value { result ≡ length (reply_text (desk_said R.number r numbers.now)) }
@@ -27,19 +28,31 @@ pub fn put_reply<R: Numbered>(r: DeskAnswer<R>, numbers: &[u64], row: &mut [u8])
 {
     match r {
         DeskAnswer::Malformed => put_refusal(Refusal::BadLine.number(), row),
-        DeskAnswer::Number(a) => put_one(a, row),
-        DeskAnswer::Moment(a) => put_moment(a, row),
-        DeskAnswer::Signed(a) => put_signed(a, row),
-        DeskAnswer::Month(a) => put_month(a, row),
+        DeskAnswer::Number(Ok(n)) => put_number(n, row),
+        DeskAnswer::Moment(Ok(t)) => put_moment(t, row),
+        DeskAnswer::Signed(Ok(z)) => put_signed(z, row),
+        DeskAnswer::Month(Ok(m)) => put_month(m, row),
         DeskAnswer::Name(n) => put_name(n, row),
-        DeskAnswer::Hour(h) => put_hour(h, row),
-        DeskAnswer::Days(d) => put_days(d, row),
-        DeskAnswer::Terms(a) => put_list(a, numbers, row),
-        DeskAnswer::Year(a) => put_months(a, numbers, row),
-        DeskAnswer::Years(a) => put_months(a, numbers, row),
-        DeskAnswer::Sheet(a) => put_list(a, numbers, row),
+        DeskAnswer::Hour(Ok(h)) => put_hour(h, row),
+        DeskAnswer::Days(Ok(d)) => put_days(d, row),
+        DeskAnswer::Terms(Ok(count)) | DeskAnswer::Sheet(Ok(count)) => {
+            put_items(b" %", 1, count as usize, numbers, row)
+        }
+        DeskAnswer::Year(Ok(count)) | DeskAnswer::Years(Ok(count)) => {
+            put_items(b" %:%:%:%", RECORD_WIDTH, count as usize, numbers, row)
+        }
         DeskAnswer::Constants => put_constants(row),
         DeskAnswer::Help => put_help(row),
+        DeskAnswer::Number(Err(r))
+        | DeskAnswer::Moment(Err(r))
+        | DeskAnswer::Signed(Err(r))
+        | DeskAnswer::Month(Err(r))
+        | DeskAnswer::Hour(Err(r))
+        | DeskAnswer::Days(Err(r))
+        | DeskAnswer::Terms(Err(r))
+        | DeskAnswer::Sheet(Err(r))
+        | DeskAnswer::Year(Err(r))
+        | DeskAnswer::Years(Err(r)) => put_refusal(r.number(), row),
     }
 }
 

@@ -2,17 +2,15 @@
 #![tactic(auto, unfolding(crate::specs::LineText::item_at, crate::specs::LineText::items_of, crate::specs::LineText::refusal_text, crate::specs::LineText::numbers_text, crate::specs::LineText::days_text, crate::specs::LineText::signed_text, crate::specs::LineText::month_text, crate::specs::LineText::moment_text))]
 
 ghost use Rattle.std.specs.Prelude.{◌≡◌, ◌≤◌, length};
-ghost use Rattle.rows.specs.Reply.{reply_of, answer_by};
 ghost use Rattle.rows.specs.Row.{over};
 ghost use Rattle.remainders.specs.Hours.{hour_found};
 ghost use Rattle.remainders.specs.ExtraDays.{days_found};
 ghost use Rattle.months.specs.Month.{month_said};
-ghost use Rattle.replies.specs.LineText.{text_of, refusal_text, number_text, name_text, hour_text, days_text, signed_text, month_text, moment_text, line_room};
+ghost use Rattle.replies.specs.LineText.{refusal_text, number_text, name_text, hour_text, days_text, signed_text, month_text, moment_text, line_room};
 
 use measure::Name;
 use months::Month;
 use remainders::Hour;
-use rows::Numbered;
 use texts::fill;
 
 pub(crate) fn put_refusal(k: u64, row: &mut [u8]) -> usize
@@ -23,30 +21,16 @@ pub(crate) fn put_refusal(k: u64, row: &mut [u8]) -> usize
     fill(b"refused %\n", &[k], row)
 }
 
-pub(crate) fn put_one<R: Numbered>(a: Result<u64, R>, row: &mut [u8]) -> usize
+pub(crate) fn put_number(n: u64, row: &mut [u8]) -> usize
     requires { line_room ≤ length row.old }
-    ensures value { result ≡ length (text_of number_text (answer_by R.number a)) }
-    ensures writes { row.new ≡ over (text_of number_text (answer_by R.number a)) row.old }
+    ensures value { result ≡ length (number_text n) }
+    ensures writes { row.new ≡ over (number_text n) row.old }
 {
-    match a {
-        Err(r) => put_refusal(r.number(), row),
-        Ok(n) => fill(b"%\n", &[n], row),
-    }
-}
-
-pub(crate) fn put_moment<R: Numbered>(a: Result<u64, R>, row: &mut [u8]) -> usize
-    requires { line_room ≤ length row.old }
-    ensures value { result ≡ length (text_of moment_text (answer_by R.number a)) }
-    ensures writes { row.new ≡ over (text_of moment_text (answer_by R.number a)) row.old }
-{
-    match a {
-        Err(r) => put_refusal(r.number(), row),
-        Ok(t) => put_time(t, row),
-    }
+    fill(b"%\n", &[n], row)
 }
 
 // A running time with its day, its remainder and the day's name.
-fn put_time(t: u64, row: &mut [u8]) -> usize
+pub(crate) fn put_moment(t: u64, row: &mut [u8]) -> usize
     requires { line_room ≤ length row.old }
     ensures value { result ≡ length (moment_text t) }
     ensures writes { row.new ≡ over (moment_text t) row.old }
@@ -57,19 +41,8 @@ fn put_time(t: u64, row: &mut [u8]) -> usize
     fill(b"% % % %\n", &[t, day, remainder, name.name], row)
 }
 
-pub(crate) fn put_signed<R: Numbered>(a: Result<i64, R>, row: &mut [u8]) -> usize
-    requires { line_room ≤ length row.old }
-    ensures value { result ≡ length (text_of signed_text (answer_by R.number a)) }
-    ensures writes { row.new ≡ over (text_of signed_text (answer_by R.number a)) row.old }
-{
-    match a {
-        Err(r) => put_refusal(r.number(), row),
-        Ok(z) => put_integer(z, row),
-    }
-}
-
 // A negative number has a sign before its magnitude.
-fn put_integer(z: i64, row: &mut [u8]) -> usize
+pub(crate) fn put_signed(z: i64, row: &mut [u8]) -> usize
     requires { line_room ≤ length row.old }
     ensures value { result ≡ length (signed_text z) }
     ensures writes { row.new ≡ over (signed_text z) row.old }
@@ -82,19 +55,8 @@ fn put_integer(z: i64, row: &mut [u8]) -> usize
     }
 }
 
-pub(crate) fn put_month<R: Numbered>(a: Result<Month, R>, row: &mut [u8]) -> usize
-    requires { line_room ≤ length row.old }
-    ensures value { result ≡ length (text_of month_text (reply_of month_said R.number a)) }
-    ensures writes { row.new ≡ over (text_of month_text (reply_of month_said R.number a)) row.old }
-{
-    match a {
-        Err(r) => put_refusal(r.number(), row),
-        Ok(m) => put_fields(m, row),
-    }
-}
-
 // Year, place and day of the month; first day and length; number and leap mark.
-fn put_fields(m: Month, row: &mut [u8]) -> usize
+pub(crate) fn put_month(m: Month, row: &mut [u8]) -> usize
     requires { line_room ≤ length row.old }
     ensures value { result ≡ length (month_text (month_said m)) }
     ensures writes { row.new ≡ over (month_text (month_said m)) row.old }
@@ -118,26 +80,23 @@ pub(crate) fn put_name(n: Name, row: &mut [u8]) -> usize
     fill(b"% % %\n", &[n.name, n.stem, n.branch], row)
 }
 
-pub(crate) fn put_hour<R: Numbered>(h: Result<Hour, R>, row: &mut [u8]) -> usize
+pub(crate) fn put_hour(h: Hour, row: &mut [u8]) -> usize
     requires { line_room ≤ length row.old }
-    ensures value { result ≡ length (text_of hour_text (reply_of hour_found R.number h)) }
-    ensures writes { row.new ≡ over (text_of hour_text (reply_of hour_found R.number h)) row.old }
+    ensures value { result ≡ length (hour_text (hour_found h)) }
+    ensures writes { row.new ≡ over (hour_text (hour_found h)) row.old }
 {
-    match h {
-        Err(r) => put_refusal(r.number(), row),
-        Ok(Hour { double_hour, ke }) => fill(b"% %\n", &[double_hour, ke], row),
-    }
+    fill(b"% %\n", &[h.double_hour, h.ke], row)
 }
 
-#[tactic(auto, unfolding(texts::specs::Text::filled, texts::specs::Text::piece, texts::specs::Text::numbers_taken, crate::specs::LineText::item_at, crate::specs::LineText::items_of, crate::specs::LineText::numbers_text, crate::specs::LineText::days_text))]
-pub(crate) fn put_days<R: Numbered>(d: Result<Option<u64>, R>, row: &mut [u8]) -> usize
+// The days to add, if there are any.
+#[tactic(auto, unfolding(crate::specs::LineText::days_text, texts::specs::Text::filled, texts::specs::Text::piece, texts::specs::Text::numbers_taken))]
+pub(crate) fn put_days(d: Option<u64>, row: &mut [u8]) -> usize
     requires { line_room ≤ length row.old }
-    ensures value { result ≡ length (text_of days_text (reply_of days_found R.number d)) }
-    ensures writes { row.new ≡ over (text_of days_text (reply_of days_found R.number d)) row.old }
+    ensures value { result ≡ length (days_text (days_found d)) }
+    ensures writes { row.new ≡ over (days_text (days_found d)) row.old }
 {
     match d {
-        Err(r) => put_refusal(r.number(), row),
-        Ok(None) => fill(b"none\n", &[], row),
-        Ok(Some(n)) => fill(b"%\n", &[n], row),
+        None => fill(b"none\n", &[], row),
+        Some(n) => put_number(n, row),
     }
 }

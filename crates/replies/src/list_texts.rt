@@ -1,47 +1,21 @@
-// The lines of lists whose numbers a row holds: numbers one by one, and months as records.
+// The line of a list whose numbers a row holds: numbers one by one, or months as records.
 ghost use Rattle.std.specs.Prelude.{◌≡◌, ◌+◌, ◌*◌, ◌≤◌, ◌<◌, length, take};
-ghost use Rattle.rows.specs.Reply.{answer_by};
 ghost use Rattle.rows.specs.Row.{over};
-ghost use Rattle.lists.specs.Records.{record_width};
 ghost use Rattle.texts.specs.Text.{filled, text_room};
-ghost use Rattle.questions.specs.DeskReply.{list_in};
-ghost use Rattle.replies.specs.LineText.{text_of, item_at, line_room};
-ghost use Rattle.replies.specs.ListText.{items_text, list_text, records_text, number_room, record_room, ItemsTake, HasRoom};
+ghost use Rattle.replies.specs.LineText.{item_at};
+ghost use Rattle.replies.specs.ListText.{items_text, ItemsTake};
 
-use crate::line_texts::put_refusal;
-use lists::year_rows::RECORD_WIDTH;
-use rows::Numbered;
 use texts::fill;
-
-// So many numbers, or the refusal.
-#[tactic(auto, using(crate::proofs::ListTextLaws::number_takes))]
-pub(crate) fn put_list<R: Numbered>(a: Result<u64, R>, numbers: &[u64], row: &mut [u8]) -> usize
-    requires { (line_room ≤ length row.old) × HasRoom 1 number_room (answer_by R.number a) (length numbers.now) (length row.old) }
-    ensures value { result ≡ length (text_of list_text (list_in 1 (answer_by R.number a) numbers.now)) }
-    ensures writes { row.new ≡ over (text_of list_text (list_in 1 (answer_by R.number a) numbers.now)) row.old }
-{
-    match a {
-        Err(r) => put_refusal(r.number(), row),
-        Ok(count) => put_items(b" %", 1, count as usize, numbers, row),
-    }
-}
-
-// So many months, or the refusal.
-#[tactic(auto, using(crate::proofs::ListTextLaws::record_takes))]
-pub(crate) fn put_months<R: Numbered>(a: Result<u64, R>, numbers: &[u64], row: &mut [u8]) -> usize
-    requires { (line_room ≤ length row.old) × HasRoom record_width record_room (answer_by R.number a) (length numbers.now) (length row.old) }
-    ensures value { result ≡ length (text_of records_text (list_in record_width (answer_by R.number a) numbers.now)) }
-    ensures writes { row.new ≡ over (text_of records_text (list_in record_width (answer_by R.number a) numbers.now)) row.old }
-{
-    match a {
-        Err(r) => put_refusal(r.number(), row),
-        Ok(count) => { put_items(b" %:%:%:%", RECORD_WIDTH, count as usize, numbers, row) }
-    }
-}
 
 // So many items of a template that takes `width` numbers, and the line end; of none it is said that there are none.
 #[tactic(auto, using(crate::proofs::ListTextLaws::no_items), unfolding(texts::specs::Text::filled, texts::specs::Text::piece, texts::specs::Text::numbers_taken))]
-fn put_items(item: &[u8], width: usize, count: usize, numbers: &[u64], row: &mut [u8]) -> usize
+pub(crate) fn put_items(
+    item: &[u8],
+    width: usize,
+    count: usize,
+    numbers: &[u64],
+    row: &mut [u8],
+) -> usize
     requires { (0 < length item.now) × (0 < width) × ItemsTake item.now width × (width * count ≤ length numbers.now) × (text_room item.now * count + 100 ≤ length row.old) }
     ensures value { result ≡ length (items_text item.now width (take (width * count) numbers.now)) }
     ensures writes { row.new ≡ over (items_text item.now width (take (width * count) numbers.now)) row.old }
