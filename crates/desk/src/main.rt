@@ -6,7 +6,6 @@ ghost use Rattle.std.specs.Prelude.{◌≡◌, ℕ, ◌+◌, ◌≤◌, ◌<◌,
 ghost use Rattle.rows.specs.Row.{over};
 ghost use Rattle.measure.specs.Epoch.{shoushi};
 ghost use Rattle.questions.specs.Question.{longest};
-ghost use Rattle.replies.specs.ListText.{years_room};
 ghost use Rattle.ask.specs.AnswerText.{answer_text};
 ghost use Rattle.desk.specs.Input.{line_room, with_more, last_text, Left, with_blank, with_argument, Begins, AskedBy};
 
@@ -109,8 +108,7 @@ enum Turn {
 }
 
 // The text of the reply to a line, from the buffer's start; how many bytes it has.
-fn answered(line: &[u8], buf: &mut [u8]) -> usize
-    requires { years_room ≤ length buf.old }
+fn answered(line: &[u8], buf: &mut [u8; YEARS_ROOM]) -> usize
     ensures within { result ≤ length buf.old }
     ensures value { result ≡ length (answer_text shoushi line.now) }
     ensures buf_after { buf.new ≡ over (answer_text shoushi line.now) buf.old }
@@ -130,16 +128,19 @@ fn write_out(rt: &(impl Print + Eprint), out: &[u8]) -> bool {
 }
 
 // Answers a line; whether the reply was written out.
-fn answer_line(rt: &(impl Print + Eprint), line: &[u8], buf: &mut [u8]) -> bool
-    requires { years_room ≤ length buf.old }
-{
+fn answer_line(rt: &(impl Print + Eprint), line: &[u8], buf: &mut [u8; YEARS_ROOM]) -> bool {
     let n = answered(line, buf);
     write_out(rt, &buf[..n])
 }
 
 // Answers the lines that end in a block, and keeps what it has of the next. A failed write ends it.
-fn answer_block(rt: &(impl Print + Eprint), block: &[u8], line: &mut Line, buf: &mut [u8]) -> Turn
-    requires { (0 < length block.now) × (years_room ≤ length buf.old) }
+fn answer_block(
+    rt: &(impl Print + Eprint),
+    block: &[u8],
+    line: &mut Line,
+    buf: &mut [u8; YEARS_ROOM],
+) -> Turn
+    requires { 0 < length block.now }
     ensures { Left result line.new line_room line.old block.now }
 {
     for b in block {
@@ -157,8 +158,7 @@ fn answer_block(rt: &(impl Print + Eprint), block: &[u8], line: &mut Line, buf: 
 
 // The text of the reply to the last line, where one was begun; how many bytes it has.
 #[tactic(auto, using(crate::proofs::Kept::no_line, crate::proofs::Kept::a_line, rows::proofs::Row::over_is))]
-fn last_reply(line: &[u8], buf: &mut [u8]) -> usize
-    requires { years_room ≤ length buf.old }
+fn last_reply(line: &[u8], buf: &mut [u8; YEARS_ROOM]) -> usize
     ensures within { result ≤ length buf.old }
     ensures value { result ≡ length (last_text line.now) }
     ensures buf_after { buf.new ≡ over (last_text line.now) buf.old }
@@ -170,8 +170,12 @@ fn last_reply(line: &[u8], buf: &mut [u8]) -> usize
 }
 
 // A block as it was read. Where nothing was, the input has ended, and so has a line that was begun.
-fn answer_read(rt: &(impl Print + Eprint), block: &[u8], line: &mut Line, buf: &mut [u8]) -> Turn
-    requires { years_room ≤ length buf.old }
+fn answer_read(
+    rt: &(impl Print + Eprint),
+    block: &[u8],
+    line: &mut Line,
+    buf: &mut [u8; YEARS_ROOM],
+) -> Turn
     ensures { Left result line.new line_room line.old block.now }
 {
     if block.is_empty() {
@@ -184,9 +188,7 @@ fn answer_read(rt: &(impl Print + Eprint), block: &[u8], line: &mut Line, buf: &
 
 // Nothing says that the input ends, so the turns have a number that no run uses up. A failed read is told, and a line that was begun has
 // no reply then: its end was not seen.
-fn answer_lines(rt: &(impl Print + Eprint), input: &mut impl Read, buf: &mut [u8])
-    requires { years_room ≤ length buf.old }
-{
+fn answer_lines(rt: &(impl Print + Eprint), input: &mut impl Read, buf: &mut [u8; YEARS_ROOM]) {
     let mut block = [0; BLOCK];
     let mut line = Line::new();
     for _ in 0..u64::MAX {
@@ -226,9 +228,7 @@ fn join_arguments(rt: &impl Env, count: usize) -> Option<Line>
 }
 
 // A question of the arguments where there are any, else those of the input's lines.
-fn answer(rt: &(impl Env + Print + Eprint), input: &mut impl Read, buf: &mut [u8])
-    requires { years_room ≤ length buf.old }
-{
+fn answer(rt: &(impl Env + Print + Eprint), input: &mut impl Read, buf: &mut [u8; YEARS_ROOM]) {
     match join_arguments(rt, argument_count(rt)) {
         Some(line) => {
             answer_line(rt, line.bytes(), buf);
@@ -237,15 +237,8 @@ fn answer(rt: &(impl Env + Print + Eprint), input: &mut impl Read, buf: &mut [u8
     }
 }
 
-// Room for the longest reply.
-fn reply_buffer() -> [u8; YEARS_ROOM]
-    ensures { 2_097_152 ≡ length result }
-{
-    [0; YEARS_ROOM]
-}
-
 fn main(rt: HostRuntime) {
     let mut input = rt.stdin();
-    let mut buf = reply_buffer();
+    let mut buf = [0; YEARS_ROOM];
     answer(&rt, &mut input, &mut buf);
 }

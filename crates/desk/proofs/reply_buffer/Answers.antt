@@ -1,7 +1,0 @@
--- `desk::reply_buffer` meets its contract, by the law of such lists and not by a count of its bytes. Assumes nothing.
-use Rattle.std.proofs.Common.{sym, ℕ}
-use Rattle.std.proofs.lemmas.List.{length-replicate}
-use Rattle.desk.proofs.reply_buffer.Goals as goal
-
-pub returns : goal.returns
-returns c = sym (length-replicate {A = ℕ} 2_097_152 0)
