@@ -3,7 +3,7 @@ ghost use Rattle.std.specs.Prelude.{◌≡◌, ◌≤◌, ◌<◌};
 ghost use Rattle.rows.specs.Reply.{answer_said};
 ghost use Rattle.measure.specs.Units.{year, half_year};
 ghost use Rattle.signed.specs.Signed.{integer, as_integer};
-ghost use Rattle.inequalities.specs.Solar.{fast_at, slow_at, solar, solar_at_reply, solar_half_said};
+ghost use Rattle.inequalities.specs.Solar.{fast_at, slow_at, solar_at, solar, solar_at_reply, solar_half_said};
 
 use crate::laws::{LAW_A, LAW_B, law_at};
 use measure::HALF_YEAR;
@@ -18,28 +18,38 @@ pub enum SolarHalf {
 }
 
 // The solar inequality at a time in a half. The half year or more is refused with 2.
-#[tactic(auto, using(signed::proofs::Integers::held_as, crate::proofs::Sizes::fast_le, crate::proofs::Sizes::slow_le), unfolding(crate::specs::Solar::solar_at_reply))]
+#[tactic(auto, unfolding(crate::specs::Solar::solar_at_reply))]
 pub fn solar_at(half: SolarHalf, time: u64) -> Result<i64, Refusal>
     ensures { answer_said result ≡ as_integer (solar_at_reply (solar_half_said half) time) }
 {
     if HALF_YEAR <= time {
         return Err(Refusal::Outside);
     }
-    match half {
-        SolarHalf::Fast => Ok(ahead(fast(time))),
-        SolarHalf::Slow => Ok(behind(slow(time))),
-    }
+    Ok(in_half(half, time))
 }
 
 // The solar inequality at a solar time: the slow half comes first.
+#[tactic(auto, unfolding(crate::specs::Solar::solar))]
 pub fn solar(time: u64) -> i64
     requires { time < year }
     ensures { result ≡ integer (solar time) }
 {
     if time < HALF_YEAR {
-        behind(slow(time))
+        in_half(SolarHalf::Slow, time)
     } else {
-        ahead(fast(time - HALF_YEAR))
+        in_half(SolarHalf::Fast, time - HALF_YEAR)
+    }
+}
+
+// Its magnitude with the sign of the half.
+#[tactic(auto, using(signed::proofs::Integers::held_as, crate::proofs::Sizes::fast_le, crate::proofs::Sizes::slow_le))]
+fn in_half(half: SolarHalf, time: u64) -> i64
+    requires { time ≤ half_year }
+    ensures { result ≡ integer (solar_at (solar_half_said half) time) }
+{
+    match half {
+        SolarHalf::Fast => ahead(fast(time)),
+        SolarHalf::Slow => behind(slow(time)),
     }
 }
 
