@@ -60,10 +60,10 @@ pub fn put_month_line(m: Month, w: usize, out: &mut [u8]) -> usize
     ensures writes { out.new ≡ over (month_line w (shown (month_said m)) ++ (line_end ∷ [])) out.old }
 {
     put_month_name(m, out);
-    put_digits(m.first, w, &mut out[5..]);
     let end = 5 + w;
-    put_digits(m.length, 2, &mut out[end..]);
+    put_digits(m.first, &mut out[5..end]);
     let n = end + 2;
+    put_digits(m.length, &mut out[end..n]);
     out[n] = LINE_END;
     n + 1
 }
@@ -74,9 +74,9 @@ fn put_month_name(m: Month, out: &mut [u8])
     ensures { out.new ≡ over (digits_of 3 (shown (month_said m)).year ++ digits_of 1 (shown (month_said m)).number ++ digits_of 1 (shown (month_said m)).mark) out.old }
 {
     let kind = m.kind;
-    put_digits(m.year, 3, out);
-    put_digits(month_number(kind), 1, &mut out[3..]);
-    put_digits(leap_mark(kind), 1, &mut out[4..]);
+    put_digits(m.year, &mut out[..3]);
+    put_digits(month_number(kind), &mut out[3..4]);
+    put_digits(leap_mark(kind), &mut out[4..5]);
 }
 
 // A refusal's line, whose number is one digit; how many bytes it has.
@@ -85,19 +85,19 @@ pub fn put_refusal_line(k: u64, out: &mut [u8]) -> usize
     ensures value { result ≡ 3 }
     ensures writes { out.new ≡ over (refusal_line k ++ (line_end ∷ [])) out.old }
 {
-    put_digits(0xE, 1, out);
-    put_digits(k, 1, &mut out[1..]);
+    put_digits(0xE, &mut out[..1]);
+    put_digits(k, &mut out[1..2]);
     out[2] = LINE_END;
     3
 }
 
-// A number that has room in w digits, as these, at the row's start. They are found from the last to the first.
-fn put_digits(n: u64, w: usize, out: &mut [u8])
-    requires { (w ≤ length out.old) × (n < 16 ^ w) }
-    ensures { out.new ≡ over (digits_of w n) out.old }
+// A number that has room in the row, as its digits. They are found from the last to the first.
+fn put_digits(n: u64, out: &mut [u8])
+    requires { n < 16 ^ length out.old }
+    ensures { out.new ≡ digits_of (length out.old) n }
 {
     let mut high = n;
-    for i in (0..w).rev() {
+    for i in (0..out.len()).rev() {
         out[i] = digit_byte(high % 16);
         high /= 16;
     }

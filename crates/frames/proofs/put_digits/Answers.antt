@@ -1,13 +1,16 @@
 -- `frames::put_digits` meets its contract. Assumes nothing.
-use mathlib.Core.Path.{◌≡◌, ◌∙◌, sym, ap}
+use mathlib.Core.Path.{◌≡◌, ◌∙◌, refl, sym, ap}
 use Prim.Native.Nat.{ℕ, suc, ◌-◌, ◌/◌, ◌%◌}
 use native.Mathlib.Omega.{arith}
-use lib.ListN.{set, length-set}
+use lib.ListN.{length, set, length-set}
 use Rattle.rows.specs.Row.{over}
 use Rattle.frames.specs.Digits.{digit_byte, digits_of}
 use Rattle.frames.proofs.DigitLaws.{length_digits}
-use Rattle.frames.proofs.RowLaws.{put_before}
+use Rattle.frames.proofs.RowLaws.{put_before, over_all}
 use Rattle.frames.proofs.put_digits.Goals as goal
+
+pub loop-i-init : goal.loop-i-init
+loop-i-init c = (refl, over_all (digits_of (length c.args.out.now) c.args.n) c.args.out.now (length_digits (length c.args.out.now) c.args.n))
 
 pub loop-i-preserved : goal.loop-i-preserved
 unfolding digits_of
