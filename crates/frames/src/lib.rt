@@ -108,11 +108,8 @@ fn digit_byte(v: u64) -> u8
     requires { v < 16 }
     ensures { result ≡ digit_byte v }
 {
-    if v < 10 {
-        (v + 48) as u8
-    } else {
-        (v + 55) as u8
-    }
+    let v = v as u8;
+    if v < 10 { b'0' + v } else { b'A' + (v - 10) }
 }
 
 // The number that digits spell, few enough for 64 bits. A byte that is no digit is refused with 5.
@@ -122,10 +119,7 @@ fn number_spelled(digits: &[u8]) -> Result<u64, Refusal>
 {
     let mut n: u64 = 0;
     for b in digits {
-        let Some(v) = digit_of(*b) else {
-            return Err(Refusal::BadLine);
-        };
-        n = n * 16 + v;
+        n = n * 16 + digit_of(*b).ok_or(Refusal::BadLine)?;
     }
     Ok(n)
 }
