@@ -47,7 +47,7 @@ pub(crate) fn put_signed(z: i64, row: &mut [u8]) -> usize
     ensures value { result ≡ length (signed_text z) }
     ensures writes { row.new ≡ over (signed_text z) row.old }
 {
-    let magnitude = signed::magnitude_of(z);
+    let magnitude = z.unsigned_abs();
     if z < 0 {
         fill(b"-%\n", &[magnitude], row)
     } else {

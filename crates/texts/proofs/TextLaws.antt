@@ -4,11 +4,11 @@
 use Rattle.std.specs.Prelude.{if◌then◌else◌}
 use mathlib.Core.Bool.{Bool, true, false}
 use mathlib.Core.Path.{◌≡◌, ◌∙◌, refl, sym, ap}
-use mathlib.Core.List.{List, [], ◌∷◌, ◌++◌, append_assoc}
+use mathlib.Core.List.{List, [], ◌∷◌, ◌++◌, append_assoc, append-nil}
 use Prim.Native.Nat.{ℕ, ◌+◌, ◌≤◌, ◌<◌}
 use native.Mathlib.Numerals.{add-one}
 use native.Mathlib.Omega.{arith}
-use lib.ListN.{length, get_or, drop, length-append, length-drop, get_or-append}
+use lib.ListN.{length, get_or, drop, drop_of_length-le, length-append, length-drop, get_or-append}
 use lib.Seq.{drop-cons, drop-drop, drop-append-le}
 use borrow.Author.Tests.{ne_eqb}
 use denote.Bor.{Bor}
@@ -20,6 +20,11 @@ use Rattle.rows.specs.Choice.{◌=?◌}
 use Rattle.rows.proofs.Choice.{if_cases}
 use Rattle.texts.specs.Text.{decimal, hole, piece, numbers_taken, holes, filled, most_digits, text_room}
 use Rattle.texts.proofs.DecimalLaws.{decimal_most}
+
+-- all is written where the template has no byte left
+pub filled_none : (t ns l : List ℕ) (i : ℕ) → length t ≤ i → l ++ filled (drop i t) ns ≡ l
+unfolding filled
+filled_none t ns l i h = rw (drop_of_length-le t h, append-nil l)
 
 -- one byte more of a template: a hole takes the next of the numbers that are left, and any other byte none
 pub filled_hole : (t ns : List ℕ) (i : ℕ) → i < length t → get_or t i 0 ≡ hole

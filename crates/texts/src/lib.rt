@@ -28,6 +28,7 @@ pub fn write_text(template: &[u8], numbers: &[u64], row: &mut [u8]) -> Result<u6
 }
 
 // The same, for a caller whose row has the room.
+#[tactic(auto, using(rows::proofs::Row::over_is, crate::proofs::TextLaws::filled_none))]
 pub fn fill(template: &[u8], numbers: &[u64], row: &mut [u8]) -> usize
     requires { text_room template.now ≤ length row.old }
     ensures value { result ≡ length (filled template.now numbers.now) }

@@ -1,17 +1,13 @@
 -- `texts::fill` meets its contract. Assumes nothing.
-use Rattle.std.proofs.Common.{◌≡◌, ◌∙◌, refl, sym, ap, ℕ, ◌+◌, ◌≤◌, List, [], ◌∷◌, ◌++◌, ◌<◌, length, get_or, set, take, drop, length-take-le, length-append, append_assoc, arith}
-use mathlib.Core.List.{append-nil}
-use lib.Seq.{drop-length}
+use Rattle.std.proofs.Common.{◌≡◌, ◌∙◌, sym, ap, ℕ, ◌+◌, List, [], ◌∷◌, ◌++◌, ◌<◌, length, get_or, set, take, drop, length-take-le, length-append, append_assoc, arith}
 use Rattle.std.specs.Slice.Iter.{iter_rest}
 use Rattle.rows.specs.Row.{over}
-use Rattle.rows.proofs.Row.{over_is, put, written, more_written}
+use Rattle.rows.proofs.Row.{put, written, more_written}
 use Rattle.texts.specs.Text.{decimal, filled}
-use Rattle.texts.proofs.TextLaws.{filled_hole, filled_byte, next_number}
+use Rattle.std.proofs.lemmas.Grind.{common_steps}
+use Rattle.texts.proofs.TextLaws.{filled_none, filled_hole, filled_byte, next_number}
 use Rattle.texts.proofs.fill.Goals as goal
 use Rattle.texts.proofs.fill.Goals.{then-b-eq-HOLE, else-b-eq-HOLE}
-
-pub loop-b-init : goal.loop-b-init
-loop-b-init c = (omega arith, rw c.iter-left.ensures.rest refl, sym (over_is [] _))
 
 -- one byte is put where a part of a whole ends
 module _ (all left row now : List ℕ) (b used : ℕ) (long : length now ≡ length row) (fits : used < length now)
@@ -53,21 +49,5 @@ loop-b-preserved c =
           rw (w.row-is, w.used-is, w.left-is) (omega arith, e.0, e.1)
     ]
 
--- all is written where the template has no byte left
-module _ (t ns left row : List ℕ) (used : ℕ) where
-  whole : filled t ns ≡ take used row ++ filled (drop (length t) t) left → filled t ns ≡ take used row
-  unfolding filled
-  whole e = e ∙ rw drop-length (append-nil (take used row))
-
 pub returns-clause-value : goal.returns-clause-value
-returns-clause-value c =
-    let all : c.loop-b.b-index ≡ length c.args.template.now = omega arith in
-    let h : c.loop-b.used ≤ length c.loop-b.row = omega arith in
-    let z = whole _ _ _ _ _ (rw all at c.loop-b.invariant.1) in
-    sym (ap length z ∙ length-take-le _ _ h)
-
-pub returns-clause-writes : goal.returns-clause-writes
-returns-clause-writes c =
-    let all : c.loop-b.b-index ≡ length c.args.template.now = omega arith in
-    let z = whole _ _ _ _ _ (rw all at c.loop-b.invariant.1) in
-    c.loop-b.invariant.2 ∙ ap (λ (l : List ℕ). over l c.args.row.now) (sym z)
+returns-clause-value c = grind (arith, common_steps, filled_none, length-take-le)
