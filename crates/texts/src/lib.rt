@@ -27,7 +27,7 @@ pub fn write_text(template: &[u8], numbers: &[u64], row: &mut [u8]) -> Result<u6
     Ok(fill(template, numbers, row) as u64)
 }
 
-// The same, for a caller whose row has the room.
+// The same, for a caller whose row has the room. The row is lent and counted by hand: with no heap a text is no String.
 #[tactic(auto, using(rows::proofs::Row::over_is, crate::proofs::TextLaws::filled_none))]
 pub fn fill(template: &[u8], numbers: &[u64], row: &mut [u8]) -> usize
     requires { text_room template.now ≤ length row.old }
