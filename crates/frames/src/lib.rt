@@ -79,7 +79,7 @@ fn put_month_name(m: Month, out: &mut [u8])
     put_digits(leap_mark(kind), &mut out[4..5]);
 }
 
-// A refusal's line, whose number is one digit; how many bytes it has.
+// A refusal's line, whose number is one digit; how many bytes it has. Every digit has its line (`refusal_line`): so k is a number.
 pub fn put_refusal_line(k: u64, out: &mut [u8]) -> usize
     requires { (3 ≤ length out.old) × (k < 16 ^ 1) }
     ensures value { result ≡ 3 }

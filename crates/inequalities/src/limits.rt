@@ -5,7 +5,7 @@ ghost use Rattle.inequalities.specs.Limits.{limits, whole_limit, from_nearer_end
 
 use measure::DAY;
 
-// Quick is positive, tardy negative.
+// Quick is positive, tardy negative. Not the sun's halves under other names: no half of one is asked of the other.
 #[derive(Clone, Copy)]
 pub enum LunarHalf {
     Quick,

@@ -69,7 +69,7 @@ fn fast(time: u64) -> u64
     }
 }
 
-// And in the slow half.
+// And in the slow half. One function of both would take two laws and a limit; these are `fast_at` and `slow_at` as they stand.
 fn slow(time: u64) -> u64
     requires { time ≤ half_year }
     ensures { result ≡ slow_at time }

@@ -19,7 +19,7 @@ pub fn month_number(kind: Kind) -> u64
     }
 }
 
-// A month's leap mark: 1 where it is leap, else 0.
+// A month's leap mark: 1 where it is leap, else 0. A number, since records and lines hold it so (`mark_in`).
 pub fn leap_mark(kind: Kind) -> u64
     ensures { result ≡ mark_in (kind_said kind) }
 {

@@ -57,7 +57,8 @@ pub fn month_of(d: u64) -> Result<Month, Refusal>
     Ok(month_in(span_of(d), d))
 }
 
-// A month by its lunation, with its first day and that of the next.
+// A month by its lunation, with its first day and that of the next. `span_of` makes one of any calendar: so the clauses say of whose, and no
+// field does.
 #[derive(Clone, Copy)]
 pub struct Span {
     pub lunation: u64,
