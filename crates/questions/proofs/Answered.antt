@@ -1,10 +1,9 @@
--- Laws of answers: one that is no list leaves the row as it is, and a list stands in the row from its start.
+-- Laws of answers: no question leaves the row as it is, and a list stands in the row from its start.
 -- Assumes nothing.
 use mathlib.Core.List.{List}
 use mathlib.Core.Path.{◌≡◌, ◌∙◌, refl, ap}
 use Prim.Native.Nat.{ℕ, suc, ◌*◌, ◌≤◌}
 use native.Mathlib.Omega.{arith}
-use lib.IntN.{ℤ}
 use lib.ListN.{length}
 use Rattle.rows.specs.Reply.{Reply, answer, refused, answer_said}
 use Rattle.rows.specs.Row.{over, row_after}
@@ -12,55 +11,20 @@ use Rattle.std.specs.Prelude.{Option, Result}
 use Rattle.rows.specs.declared.Refusal.{Refusal}
 use Rattle.rows.proofs.Row.{written, over_least}
 use Rattle.measure.specs.Units.{last_year}
-use Rattle.measure.specs.declared.Name.{Name}
-use Rattle.remainders.specs.Hours.{hour_said}
-use Rattle.remainders.specs.ExtraDays.{Found, days_said}
-use Rattle.remainders.specs.declared.Hour.{Hour as HourFound}
 use Rattle.seasons.specs.Terms.{terms as terms_in_year}
-use Rattle.months.specs.Month.{MonthOfDay, month_answer_said}
-use Rattle.months.specs.declared.Month.{Month as MonthFound}
 use Rattle.lists.specs.Records.{record_width, year_room}
-use Rattle.questions.specs.DeskReply.{DeskReply, malformed, number, moment, signed, month, name, hour, days, terms, year, years, sheet, as_list, list_of, list_in, most_records, Few, Answers}
+use Rattle.questions.specs.DeskReply.{DeskReply, malformed, terms, year, years, sheet, as_list, list_of, list_in, most_records, Few, Answers}
 use Rattle.questions.specs.declared.DeskAnswer.{DeskAnswer}
-use Rattle.questions.specs.declared.DeskAnswer.TheVariants.{Malformed, Number, Moment, Signed, Month, Name as NameOf, Hour, Days, Terms, Year, Years, Sheet}
+use Rattle.questions.specs.declared.DeskAnswer.TheVariants.{Malformed, Terms, Year, Years, Sheet}
 
 -- the reply is the same
 pub answers_as : {told reply : DeskReply} {r : DeskAnswer Refusal} {before after : List ℕ} → told ≡ reply → Answers told r before after
     → Answers reply r before after
 answers_as e h = rw e at h
 
-module _ (row : List ℕ) where
-  pub no_question : Answers malformed Malformed row row
-  unfolding over
-  no_question = record { said = refl; written = refl; lies = tt }
-
-  pub number_answers : (a : Result ℕ Refusal) {reply : Reply ℕ} → answer_said a ≡ reply → Answers (number reply) (Number a) row row
-  unfolding over
-  number_answers a e = record { said = ap number e; written = refl; lies = tt }
-
-  pub moment_answers : (a : Result ℕ Refusal) {reply : Reply ℕ} → answer_said a ≡ reply → Answers (moment reply) (Moment a) row row
-  unfolding over
-  moment_answers a e = record { said = ap moment e; written = refl; lies = tt }
-
-  pub signed_answers : (a : Result ℤ Refusal) {reply : Reply ℤ} → answer_said a ≡ reply → Answers (signed reply) (Signed a) row row
-  unfolding over
-  signed_answers a e = record { said = ap signed e; written = refl; lies = tt }
-
-  pub month_answers : (a : Result MonthFound Refusal) {reply : Reply MonthOfDay} → month_answer_said a ≡ reply → Answers (month reply) (Month a) row row
-  unfolding over
-  month_answers a e = record { said = ap month e; written = refl; lies = tt }
-
-  pub name_answers : (n : Name) {reply : Name} → n ≡ reply → Answers (name reply) (NameOf n) row row
-  unfolding over
-  name_answers n e = record { said = ap name e; written = refl; lies = tt }
-
-  pub hour_answers : (a : Result HourFound Refusal) {reply : Reply (ℕ × ℕ)} → hour_said a ≡ reply → Answers (hour reply) (Hour a) row row
-  unfolding over
-  hour_answers a e = record { said = ap hour e; written = refl; lies = tt }
-
-  pub days_answers : (a : Result (Option ℕ) Refusal) {reply : Reply Found} → days_said a ≡ reply → Answers (days reply) (Days a) row row
-  unfolding over
-  days_answers a e = record { said = ap days e; written = refl; lies = tt }
+pub no_question : (row : List ℕ) → Answers malformed Malformed row row
+unfolding over
+no_question row = record { said = refl; written = refl; lies = tt }
 
 -- a list with w numbers for each of so many, of which there are not more than `most`
 abbrev pub Long : ℕ → ℕ → Reply ℕ → List ℕ → Type 0

@@ -1,7 +1,7 @@
 -- Laws of the marks of a text: one mark more, and none left.
 -- Assumes nothing.
-use Rattle.std.specs.Prelude.{if◌then◌else◌}
-use mathlib.Core.Bool.{Bool, true, false}
+use Rattle.std.specs.Prelude.{Option, Some, None}
+use mathlib.Core.Bool.{true, false}
 use mathlib.Core.List.{List, [], ◌∷◌, ◌++◌}
 use mathlib.Core.Logic.{◌⊎◌, inl, inr}
 use mathlib.Core.Path.{◌≡◌, ◌∙◌, refl, sym, ap}
@@ -11,22 +11,14 @@ use borrow.Author.Tests.{eq-eqb, ne_eqb}
 use lib.ListN.{length}
 use Rattle.rows.specs.Reply.{Reply, answer, refused, bad_line}
 use Rattle.rows.proofs.Choice.{lt_or_ge, passes_or_fails}
-use Rattle.words.specs.Number.{number_of}
-use Rattle.words.specs.declared.decimals.Number.TheVariants.{Value, Bad}
 use Rattle.words.specs.Text.{◌is◌}
-use Rattle.words.specs.Choice.{chosen}
 use Rattle.words.specs.Numbers.{part_of, rest_of}
 use Rattle.words.proofs.Within.{rest_shorter, rest_no_longer}
-use Rattle.sheets.specs.Marks.{marked}
-use Rattle.sheets.specs.declared.Shown.TheVariants.{Leap}
 use Rattle.sheets.specs.Sheet.{blank_sheet, with_mark, with_marks}
 use Rattle.sheets.specs.declared.Mark.{Mark}
 use Rattle.sheets.specs.declared.Sheet.{Sheet}
 use Rattle.sheets.proofs.OnSheet.{marks_snoc}
-use Rattle.questions.specs.MarkWords.{showing, mark_of, after_mark, marks_within, marks_in, sheet_read}
-use Rattle.questions.specs.declared.marks.SheetRead.{SheetRead}
-use Rattle.questions.specs.declared.marks.MarkRead.{MarkRead}
-use Rattle.questions.specs.declared.marks.MarkRead.TheVariants.{Read, Unread}
+use Rattle.questions.specs.MarkWords.{mark_of, after_mark, marks_within, marks_in, sheet_read}
 
 -- what follows a mark: it takes a byte at least
 module _ (s : List ℕ) where
@@ -62,11 +54,11 @@ module _ (before : List Mark) (s : List ℕ) where
   none_left n e = simp (eq-eqb _ _ e)
 
   -- a text that does not start with a mark
-  pub no_mark : (n : ℕ) → 0 < length s → mark_of s ≡ Unread → marks_within (suc n) before s ≡ refused bad_line
+  pub no_mark : (n : ℕ) → 0 < length s → mark_of s ≡ None → marks_within (suc n) before s ≡ refused bad_line
   unfolding marks_within
   no_mark n h e = simp (ne_eqb (length s) 0 (λ z. omega arith), e)
 
-  a_mark : (n : ℕ) (m : Mark) → 0 < length s → mark_of s ≡ Read m
+  a_mark : (n : ℕ) (m : Mark) → 0 < length s → mark_of s ≡ Some m
       → marks_within (suc n) before s ≡ marks_within n (before ++ (m ∷ [])) (after_mark s)
   unfolding marks_within
   a_mark n m h e = simp (ne_eqb (length s) 0 (λ z. omega arith), e)
@@ -79,19 +71,19 @@ enough (suc m) (suc n) before s g h = by (λ b t i j. enough m n b t i j) (lt_or
   where
     by : ((b : List Mark) (t : List ℕ) → length t < m → length t < n → marks_within m b t ≡ marks_within n b t)
         → (0 < length s) ⊎ (length s ≤ 0)
-        → (r : MarkRead) → mark_of s ≡ r
+        → (r : Option Mark) → mark_of s ≡ r
         → marks_within (suc m) before s ≡ marks_within (suc n) before s
     by later (inr z) r e =
         let empty : length s ≡ 0 = omega arith in
         none_left before s m empty ∙ sym (none_left before s n empty)
-    by later (inl l) Unread e = no_mark before s m l e ∙ sym (no_mark before s n l e)
-    by later (inl l) (Read k) e =
+    by later (inl l) None e = no_mark before s m l e ∙ sym (no_mark before s n l e)
+    by later (inl l) (Some k) e =
         a_mark before s m k l e
         ∙ later (before ++ (k ∷ [])) (after_mark s) (omega (arith, after_shorter s l)) (omega (arith, after_shorter s l))
         ∙ sym (a_mark before s n k l e)
 
 -- one mark more
-pub mark_more : (before : List Mark) (s : List ℕ) (m : Mark) → 0 < length s → mark_of s ≡ Read m
+pub mark_more : (before : List Mark) (s : List ℕ) (m : Mark) → 0 < length s → mark_of s ≡ Some m
     → marks_after before s ≡ marks_after (before ++ (m ∷ [])) (after_mark s)
 mark_more before s m h e =
     a_mark before s (length s) m h e
@@ -107,7 +99,7 @@ pub nothing_read : (text : List ℕ) (sheet : Sheet) → sheet ≡ blank_sheet �
 unfolding marks_in with_marks
 nothing_read text sheet e = record { before = []; whole = refl; folded = e }
 
-pub read_more : (text left rest : List ℕ) (sheet next : Sheet) (m : Mark) → ReadTo text left sheet → 0 < length left → mark_of left ≡ Read m
+pub read_more : (text left rest : List ℕ) (sheet next : Sheet) (m : Mark) → ReadTo text left sheet → 0 < length left → mark_of left ≡ Some m
     → rest ≡ after_mark left → next ≡ with_mark sheet m → ReadTo text rest next
 read_more text left rest sheet next m r h e f g =
     record {
@@ -116,44 +108,12 @@ read_more text left rest sheet next m r h e f g =
       folded = g ∙ ap (λ (s : Sheet). with_mark s m) r.folded ∙ sym (marks_snoc blank_sheet r.before m);
     }
 
-if_same : {A : Type 0} (t : Bool) (a : A) → (if t then a else a) ≡ a
-if_same true a = refl
-if_same false a = refl
-
--- the mark with which a text starts, by what its parts are
-module _ (s : List ℕ) where
-  pub no_number : number_of (part_of (rest_of s)) ≡ Bad → Unread ≡ mark_of s
-  unfolding mark_of
-  no_number e = rw e (sym (if_same (part_of s is "leap") Unread))
-
-  module _ (p : ℕ) (placed : number_of (part_of (rest_of s)) ≡ Value p) where
-    pub leap_mark_lem : (part_of s is "leap") ≡ true → Read (marked p Leap) ≡ mark_of s
-    unfolding mark_of
-    leap_mark_lem e = simp (e, placed)
-
-    pub no_second : (part_of s is "leap") ≡ false → number_of (part_of (rest_of (rest_of s))) ≡ Bad → Unread ≡ mark_of s
-    unfolding mark_of
-    no_second e f = simp (e, placed, f)
-
-    pub number_mark : (n : ℕ) → (part_of s is "leap") ≡ false → number_of (part_of (rest_of (rest_of s))) ≡ Value n
-        → chosen Unread (part_of s) (showing p n) ≡ mark_of s
-    unfolding mark_of
-    number_mark n e f = simp (e, placed, f)
-
--- what a reader hands on
-abbrev as_read : Sheet → Bool → SheetRead
-as_read s whole = record { sheet = s; whole = whole }
-
 module _ (text left : List ℕ) (sheet : Sheet) (r : ReadTo text left sheet) where
-  pub all_read : length left ≡ 0 → as_read sheet true ≡ sheet_read (marks_in text)
-  all_read e =
-      ap (λ (s : Sheet). as_read s true) r.folded
-      ∙ ap sheet_read (sym (r.whole ∙ none_left r.before left (length left) e))
+  pub all_read : length left ≡ 0 → Some sheet ≡ sheet_read (marks_in text)
+  all_read e = ap Some r.folded ∙ ap sheet_read (sym (r.whole ∙ none_left r.before left (length left) e))
 
-  pub not_read : (blank : Sheet) → blank ≡ blank_sheet → 0 < length left → mark_of left ≡ Unread → as_read blank false ≡ sheet_read (marks_in text)
-  not_read blank b h e =
-      ap (λ (s : Sheet). as_read s false) b
-      ∙ ap sheet_read (sym (r.whole ∙ no_mark r.before left (length left) h e))
+  pub not_read : 0 < length left → mark_of left ≡ None → None ≡ sheet_read (marks_in text)
+  not_read h e = ap sheet_read (sym (r.whole ∙ no_mark r.before left (length left) h e))
 
 -- marks that are not read are refused with one number
 only_bad : (n : ℕ) (before : List Mark) (s : List ℕ) (k : ℕ) → marks_within n before s ≡ refused k → k ≡ bad_line
@@ -163,14 +123,14 @@ only_bad (suc n) before s k f = by (λ b t g. only_bad n b t k g) (lt_or_ge 0 (l
   where
     by : ((b : List Mark) (t : List ℕ) → marks_within n b t ≡ refused k → k ≡ bad_line)
         → (0 < length s) ⊎ (length s ≤ 0)
-        → (r : MarkRead) → mark_of s ≡ r
+        → (r : Option Mark) → mark_of s ≡ r
         → k ≡ bad_line
     by later (inr z) r e =
         let told = none_left before s n (omega arith) in
         let no : ◌≡◌ {A = ℕ} 0 1 = cc in
         absurd (omega arith)
-    by later (inl l) Unread e = let told = no_mark before s n l e in cc
-    by later (inl l) (Read m) e = later (before ++ (m ∷ [])) (after_mark s) (sym (a_mark before s n m l e) ∙ f)
+    by later (inl l) None e = let told = no_mark before s n l e in cc
+    by later (inl l) (Some m) e = later (before ++ (m ∷ [])) (after_mark s) (sym (a_mark before s n m l e) ∙ f)
 
 pub refused_so : (s : List ℕ) (k : ℕ) → marks_in s ≡ refused k → k ≡ bad_line
 unfolding marks_in

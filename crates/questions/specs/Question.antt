@@ -3,7 +3,7 @@
 -- Assumes nothing.
 use Rattle.std.specs.Prelude.{ℕ, ◌/◌, List, [], ◌∷◌, length, if◌then◌else◌}
 use Rattle.words.specs.Line.{word_of, after_word}
-use Rattle.words.specs.Choice.{Choices, chosen, choice_at}
+use Rattle.words.specs.Choice.{Choices, chosen}
 use Rattle.words.specs.Numbers.{part_of, rest_of, numbers_of}
 use Rattle.words.specs.Text.{◌is◌}
 use Rattle.words.specs.declared.Numbers.{Numbers}
@@ -40,13 +40,8 @@ abbrev pub Questions : Type 0
 Questions = Choices DeskReply
 
 infix 40 ◌among◌
-infix 40 ◌at◌
 abbrev pub ◌among◌ : List ℕ → Questions → DeskReply
 word among qs = chosen malformed word qs
-
--- the reply at a place, counted from 0
-abbrev pub ◌at◌ : Questions → ℕ → DeskReply
-qs at k = choice_at malformed qs k
 
 -- a word alone
 unfoldable pub alone : Questions

@@ -1,102 +1,64 @@
-// The questions by how many numbers follow the word. A list has the words, and a word's place in it picks the answer.
+// The questions by how many numbers follow the word.
+#![tactic(auto, using(words::proofs::Same::alike, words::proofs::Same::unlike), unfolding(crate::specs::Question::alone, crate::specs::Question::with_one, crate::specs::Question::with_two, crate::specs::Question::with_three, words::specs::Choice::chosen, rows::specs::Row::over))]
+
 ghost use Rattle.std.specs.Prelude.{List, ℕ, length};
 ghost use Rattle.measure.specs.Epoch.{shoushi};
 ghost use Rattle.questions.specs.DeskReply.{Answers};
-ghost use Rattle.questions.specs.Question.{◌among◌, ◌at◌, alone, with_one, with_two, with_three};
+ghost use Rattle.questions.specs.Question.{◌among◌, alone, with_one, with_two, with_three};
 
 use crate::DeskAnswer;
 use rows::Refusal;
-use words::place_of;
 
-pub(crate) fn alone(word: &[u8]) -> DeskAnswer<Refusal>
+pub(crate) fn alone(word: &str) -> DeskAnswer<Refusal>
     ensures { (row : List ℕ) → Answers (word.now among alone) result row row }
 {
-    alone_at(place_of(word, b" constants help"))
-}
-
-fn alone_at(k: usize) -> DeskAnswer<Refusal>
-    ensures { (row : List ℕ) → Answers (alone at k) result row row }
-{
-    match k {
-        0 => DeskAnswer::Constants,
-        1 => DeskAnswer::Help,
+    match word {
+        "constants" => DeskAnswer::Constants,
+        "help" => DeskAnswer::Help,
         _ => DeskAnswer::Malformed,
     }
 }
 
-pub(crate) fn with_one(word: &[u8], n: u64, row: &mut [u64]) -> DeskAnswer<Refusal>
+pub(crate) fn with_one(word: &str, n: u64, row: &mut [u64]) -> DeskAnswer<Refusal>
     ensures { Answers (word.now among with_one shoushi (length row.old) n) result row.old row.new }
 {
-    one_at(
-        place_of(
-            word,
-            b" solstice terms head year day name hour extra vanishing",
-        ),
-        n,
-        row,
-    )
-}
-
-fn one_at(k: usize, n: u64, row: &mut [u64]) -> DeskAnswer<Refusal>
-    ensures { Answers (with_one shoushi (length row.old) n at k) result row.old row.new }
-{
-    match k {
-        0 => DeskAnswer::Moment(seasons::solstice(n)),
-        1 => DeskAnswer::Terms(seasons::terms(n, row)),
-        2 => DeskAnswer::Number(months::head(n)),
-        3 => DeskAnswer::Year(lists::list(n, row)),
-        4 => DeskAnswer::Month(months::month_of(n)),
-        5 => DeskAnswer::Name(measure::name_of(n)),
-        6 => DeskAnswer::Hour(remainders::double_hour(n)),
-        7 => DeskAnswer::Days(remainders::extra_day(n)),
-        8 => DeskAnswer::Days(remainders::vanishing_day(n)),
+    match word {
+        "solstice" => DeskAnswer::Moment(seasons::solstice(n)),
+        "terms" => DeskAnswer::Terms(seasons::terms(n, row)),
+        "head" => DeskAnswer::Number(months::head(n)),
+        "year" => DeskAnswer::Year(lists::list(n, row)),
+        "day" => DeskAnswer::Month(months::month_of(n)),
+        "name" => DeskAnswer::Name(measure::name_of(n)),
+        "hour" => DeskAnswer::Hour(remainders::double_hour(n)),
+        "extra" => DeskAnswer::Days(remainders::extra_day(n)),
+        "vanishing" => DeskAnswer::Days(remainders::vanishing_day(n)),
         _ => DeskAnswer::Malformed,
     }
 }
 
-pub(crate) fn with_two(word: &[u8], n: u64, i: u64, row: &mut [u64]) -> DeskAnswer<Refusal>
+pub(crate) fn with_two(word: &str, n: u64, i: u64, row: &mut [u64]) -> DeskAnswer<Refusal>
     ensures { Answers (word.now among with_two shoushi (length row.old) n i) result row.old row.new }
 {
-    two_at(
-        place_of(
-            word,
-            b" term earth years mean true motion solar lunar correction",
-        ),
-        n,
-        i,
-        row,
-    )
-}
-
-fn two_at(k: usize, n: u64, i: u64, row: &mut [u64]) -> DeskAnswer<Refusal>
-    ensures { Answers (with_two shoushi (length row.old) n i at k) result row.old row.new }
-{
-    match k {
-        0 => DeskAnswer::Moment(seasons::term(n, i)),
-        1 => DeskAnswer::Moment(seasons::earth(n, i)),
-        2 => DeskAnswer::Years(lists::run(n, i, row)),
-        3 => DeskAnswer::Moment(moons::mean(n, i)),
-        4 => DeskAnswer::Moment(moons::true_moon(n, i)),
-        5 => DeskAnswer::Number(moons::motion(n, i)),
-        6 => DeskAnswer::Signed(moons::solar(n, i)),
-        7 => DeskAnswer::Signed(moons::lunar(n, i)),
-        8 => DeskAnswer::Signed(moons::correction(n, i)),
+    match word {
+        "term" => DeskAnswer::Moment(seasons::term(n, i)),
+        "earth" => DeskAnswer::Moment(seasons::earth(n, i)),
+        "years" => DeskAnswer::Years(lists::run(n, i, row)),
+        "mean" => DeskAnswer::Moment(moons::mean(n, i)),
+        "true" => DeskAnswer::Moment(moons::true_moon(n, i)),
+        "motion" => DeskAnswer::Number(moons::motion(n, i)),
+        "solar" => DeskAnswer::Signed(moons::solar(n, i)),
+        "lunar" => DeskAnswer::Signed(moons::lunar(n, i)),
+        "correction" => DeskAnswer::Signed(moons::correction(n, i)),
         _ => DeskAnswer::Malformed,
     }
 }
 
-pub(crate) fn with_three(word: &[u8], n: u64, i: u64, p: u64) -> DeskAnswer<Refusal>
+pub(crate) fn with_three(word: &str, n: u64, i: u64, p: u64) -> DeskAnswer<Refusal>
     ensures { (row : List ℕ) → Answers (word.now among with_three shoushi n i p) result row row }
 {
-    three_at(place_of(word, b" pentad back"), n, i, p)
-}
-
-fn three_at(k: usize, n: u64, i: u64, p: u64) -> DeskAnswer<Refusal>
-    ensures { (row : List ℕ) → Answers (with_three shoushi n i p at k) result row row }
-{
-    match k {
-        0 => DeskAnswer::Moment(seasons::pentad(n, i, p)),
-        1 => DeskAnswer::Number(months::dates::day_at(n, i, p)),
+    match word {
+        "pentad" => DeskAnswer::Moment(seasons::pentad(n, i, p)),
+        "back" => DeskAnswer::Number(months::dates::day_at(n, i, p)),
         _ => DeskAnswer::Malformed,
     }
 }

@@ -55,20 +55,19 @@ pub fn ask(line: &[u8], row: &mut [u64]) -> DeskAnswer<Refusal>
     if line.len() > LONGEST {
         return DeskAnswer::Malformed;
     }
-    let word = words::word_in(line);
     let rest = words::after_word(line);
-    if check::same(word, b"sheet") {
-        return marks::on_marks(rest, row);
+    match str::from_utf8(words::word_in(line)) {
+        Ok("sheet") => marks::on_marks(rest, row),
+        Ok(word) => by_numbers(word, rest, row),
+        Err(_) => DeskAnswer::Malformed,
     }
-    by_numbers(word, rest, row)
 }
 
 // The numbers are read once. Where the rest is no numbers, it starts with a half.
-fn by_numbers(word: &[u8], rest: &[u8], row: &mut [u64]) -> DeskAnswer<Refusal>
+fn by_numbers(word: &str, rest: &[u8], row: &mut [u64]) -> DeskAnswer<Refusal>
     ensures { Answers (on_numbers shoushi (length row.old) word.now rest.now (numbers_of rest.now)) result row.old row.new }
 {
-    let numbers = words::numbers_in(rest);
-    match numbers {
+    match words::numbers_in(rest) {
         Numbers::Nothing => counted::alone(word),
         Numbers::One(n) => counted::with_one(word, n, row),
         Numbers::Two(n, i) => counted::with_two(word, n, i, row),

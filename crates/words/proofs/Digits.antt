@@ -1,15 +1,27 @@
 -- Laws of numbers in decimal digits: when a reader may stop, and what it has then. Assumes nothing.
-use mathlib.Core.Path.{◌≡◌, ◌∙◌, sym, ap}
+use mathlib.Core.Path.{◌≡◌, ◌∙◌, refl, sym, ap}
 use mathlib.Core.List.{List}
-use mathlib.Core.Bool.{true, false, ◌&&◌, and-false}
+use mathlib.Core.Bool.{Bool, true, false, cond, ◌&&◌, and-false}
 use Prim.Native.Nat.{ℕ, zero, suc, ◌+◌, ◌-◌, ◌*◌, ◌^◌, ◌≤◌, ◌<◌}
 use native.Mathlib.Nat.{add-zero, add-suc, le_refl}
 use native.Mathlib.Numerals.{add-one}
 use native.Mathlib.Omega.{arith}
 use borrow.Author.Tests.{le-leb, lt-leb, lt-ltb, le-ltb}
 use lib.ListN.{length, get_or}
-use Rattle.words.specs.declared.decimals.Number.TheVariants.{Value, Bad}
-use Rattle.words.specs.Number.{is_digit, digits, value, is_number, number_of}
+use Rattle.std.specs.Prelude.{Some, None}
+use Rattle.std.proofs.lemmas.Option.{none-some, cond_some}
+use Rattle.words.specs.Number.{is_digit, digit_of, digits, value, is_number, number_of}
+
+-- what an answer to a byte says of it
+pub not_digit : (b : ℕ) → digit_of b ≡ None → is_digit b ≡ false
+not_digit b e = by (is_digit b) e
+  where
+    by : (t : Bool) → cond t (Some (b - 48)) None ≡ None → t ≡ false
+    by true f = absurd (none-some (b - 48) (sym f))
+    by false f = refl
+
+pub a_digit : (b d : ℕ) → digit_of b ≡ Some d → (is_digit b ≡ true) × (b - 48 ≡ d)
+a_digit b d e = cond_some (is_digit b) (b - 48) d e
 
 -- one digit more
 pub digits_more : (s : List ℕ) (i : ℕ) → digits s (i + 1) ≡ (digits s i && is_digit (get_or s i 0))
@@ -33,15 +45,15 @@ value_grows s i zero = rw add-zero (le_refl _)
 value_grows s i (suc k) = rw add-suc (omega (arith, value_grows s i k))
 
 module _ (s : List ℕ) where
-  pub empty : length s ≡ 0 → number_of s ≡ Bad
+  pub empty : length s ≡ 0 → number_of s ≡ None
   unfolding number_of is_number
   empty e = rw e
 
-  pub long : 20 < length s → number_of s ≡ Bad
+  pub long : 20 < length s → number_of s ≡ None
   unfolding number_of is_number
   long h = simp (lt-leb (length s) 20 h, and-false)
 
-  pub no_digit : (i : ℕ) → i < length s → is_digit (get_or s i 0) ≡ false → number_of s ≡ Bad
+  pub no_digit : (i : ℕ) → i < length s → is_digit (get_or s i 0) ≡ false → number_of s ≡ None
   unfolding number_of is_number
   no_digit i h e =
       let k : i + 1 + (length s - (i + 1)) ≡ length s = omega arith in
@@ -49,13 +61,13 @@ module _ (s : List ℕ) where
       let z : digits s (length s) ≡ false = ap (digits s) (sym k) ∙ digits_stop s (i + 1) (length s - (i + 1)) w in
       simp (z, and-false)
 
-  pub large : (i : ℕ) → i < length s → 2 ^ 64 ≤ value s (i + 1) → number_of s ≡ Bad
+  pub large : (i : ℕ) → i < length s → 2 ^ 64 ≤ value s (i + 1) → number_of s ≡ None
   unfolding number_of is_number
   large i h w =
       let k : i + 1 + (length s - (i + 1)) ≡ length s = omega arith in
       let g : value s (i + 1) ≤ value s (length s) = rw k at (value_grows s (i + 1) (length s - (i + 1))) in
       simp (le-ltb (value s (length s)) (2 ^ 64) (omega arith), and-false)
 
-  pub whole : 0 < length s → length s ≤ 20 → digits s (length s) ≡ true → value s (length s) < 2 ^ 64 → number_of s ≡ Value (value s (length s))
+  pub whole : 0 < length s → length s ≤ 20 → digits s (length s) ≡ true → value s (length s) < 2 ^ 64 → number_of s ≡ Some (value s (length s))
   unfolding number_of is_number
   whole h m d v = simp (le-leb 1 (length s) h, le-leb (length s) 20 m, d, lt-ltb (value s (length s)) (2 ^ 64) v)

@@ -2,18 +2,18 @@
 use mathlib.Core.Path.{◌≡◌, refl}
 use Rattle.words.specs.Search.{index_of}
 use Rattle.words.specs.Ascii.{bytes_of}
-use Rattle.words.specs.declared.decimals.Number.TheVariants.{Value, Bad}
+use Rattle.std.specs.Prelude.{Some, None}
 use Rattle.words.specs.Number.{digits, value, is_number, number_of}
 use Rattle.words.specs.declared.Numbers.TheVariants.{Nothing, Two, Other}
 use Rattle.words.specs.Numbers.{end_of, part_of, rest_of, numbers_of}
 
 -- the largest number and the next, twenty digits and one more, nothing, and a sign
-numbers : (number_of (bytes_of "18446744073709551615") ≡ Value 18446744073709551615)
-    × (number_of (bytes_of "18446744073709551616") ≡ Bad)
-    × (number_of (bytes_of "00000000000000000340") ≡ Value 340)
-    × (number_of (bytes_of "000000000000000000340") ≡ Bad)
-    × (number_of (bytes_of "") ≡ Bad)
-    × (number_of (bytes_of "-1") ≡ Bad)
+numbers : (number_of (bytes_of "18446744073709551615") ≡ Some 18446744073709551615)
+    × (number_of (bytes_of "18446744073709551616") ≡ None)
+    × (number_of (bytes_of "00000000000000000340") ≡ Some 340)
+    × (number_of (bytes_of "000000000000000000340") ≡ None)
+    × (number_of (bytes_of "") ≡ None)
+    × (number_of (bytes_of "-1") ≡ None)
 unfolding digits value is_number number_of
 numbers = (refl, refl, refl, refl, refl, refl)
 

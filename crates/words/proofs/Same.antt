@@ -28,14 +28,17 @@ not_true : (p : Bool) → (p ≡ true → false ≡ true) → p ≡ false
 not_true true f = absurd (false≢true (f refl))
 not_true false f = refl
 
+-- what a match on a text tells of it
+pub alike : (a b : List ℕ) → a ≡ b → same a b ≡ true
+alike a b e = rw e (same_itself b)
+
+pub unlike : (a b : List ℕ) → (a ≡ b → ⊥) → same a b ≡ false
+unlike a b h = not_true (same a b) (λ e. absurd (h (same_equal a b e)))
+
 -- what a function answers that is true just where a and b are equal
 pub same_answer : (a b : List ℕ) (r : Bool) → (r ≡ true → a ≡ b) × (a ≡ b → r ≡ true) → same a b ≡ r
 same_answer a b true h = rw (h.0 refl) (same_itself b)
 same_answer a b false h = not_true (same a b) (λ e. h.1 (same_equal a b e))
-
--- the same, once a branch has told the answer
-pub told_same : {a b : List ℕ} {r s : Bool} → (r ≡ true → a ≡ b) × (a ≡ b → r ≡ true) → r ≡ s → same a b ≡ s
-told_same h e = same_answer _ _ _ h ∙ e
 
 -- a test of two slices goes byte by byte, as `same` does
 pub same_bytes : (a b : List ℕ) → same a b ≡ bytes_eq a b

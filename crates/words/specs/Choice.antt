@@ -1,6 +1,6 @@
 -- What a word chooses from a list of words, each with what it stands for.
 -- Assumes nothing.
-use Rattle.std.specs.Prelude.{ℕ, zero, suc, List, [], ◌∷◌, if◌then◌else◌}
+use Rattle.std.specs.Prelude.{ℕ, List, [], ◌∷◌, if◌then◌else◌}
 use Prim.Native.String.{String}
 use Rattle.words.specs.Text.{◌is◌}
 
@@ -11,9 +11,3 @@ Choices A = List (String × A)
 unfoldable pub chosen : {A : Type 0} → A → List ℕ → Choices A → A
 chosen other word [] = other
 chosen other word (q ∷ more) = if word is q.0 then q.1 else chosen other word more
-
--- the choice at a place, counted from 0
-unfoldable pub choice_at : {A : Type 0} → A → Choices A → ℕ → A
-choice_at other [] k = other
-choice_at other (q ∷ more) zero = q.1
-choice_at other (q ∷ more) (suc k) = choice_at other more k

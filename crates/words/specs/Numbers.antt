@@ -1,8 +1,6 @@
 -- The parts of a text, each with one blank before it, and the numbers among them. Assumes nothing.
-use Rattle.std.specs.Prelude.{ℕ, ◌+◌, ◌-◌, List, [], Bool, cond, length, get_or, take, drop, eqb}
+use Rattle.std.specs.Prelude.{ℕ, ◌+◌, ◌-◌, List, [], Bool, cond, length, get_or, take, drop, eqb, Option, Some, None}
 use Rattle.words.specs.Search.{index_of}
-use Rattle.words.specs.declared.decimals.Number.{Number}
-use Rattle.words.specs.declared.decimals.Number.TheVariants.{Value, Bad}
 use Rattle.words.specs.declared.Numbers.{Numbers}
 use Rattle.words.specs.declared.Numbers.TheVariants.{Nothing, One, Two, Three, Other}
 use Rattle.words.specs.Number.{number_of}
@@ -23,17 +21,17 @@ unfoldable pub rest_of : List ℕ → List ℕ
 rest_of s = drop (end_of s) s
 
 -- the numbers, once some are read, the next one is, and what is left is t
-abbrev pub third : ℕ → ℕ → Number → List ℕ → Numbers
-third a b (Value c) t = cond (is_empty t) (Three a b c) Other
-third a b Bad t = Other
+abbrev pub third : ℕ → ℕ → Option ℕ → List ℕ → Numbers
+third a b (Some c) t = cond (is_empty t) (Three a b c) Other
+third a b None t = Other
 
-abbrev pub second : ℕ → Number → List ℕ → Numbers
-second a (Value b) t = cond (is_empty t) (Two a b) (third a b (number_of (part_of t)) (rest_of t))
-second a Bad t = Other
+abbrev pub second : ℕ → Option ℕ → List ℕ → Numbers
+second a (Some b) t = cond (is_empty t) (Two a b) (third a b (number_of (part_of t)) (rest_of t))
+second a None t = Other
 
-abbrev pub first : Number → List ℕ → Numbers
-first (Value a) t = cond (is_empty t) (One a) (second a (number_of (part_of t)) (rest_of t))
-first Bad t = Other
+abbrev pub first : Option ℕ → List ℕ → Numbers
+first (Some a) t = cond (is_empty t) (One a) (second a (number_of (part_of t)) (rest_of t))
+first None t = Other
 
 -- up to three numbers; Other where there are more, or something else
 unfoldable pub numbers_of : List ℕ → Numbers

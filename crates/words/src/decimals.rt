@@ -1,39 +1,28 @@
 // A number in decimal digits.
 ghost use Rattle.std.specs.Prelude.{◌≡◌};
-ghost use Rattle.words.specs.Number.{number_of};
-
-#[derive(Clone, Copy)]
-pub enum Number {
-    Value(u64),
-    Bad,
-}
+ghost use Rattle.words.specs.Number.{digit_of, number_of};
 
 // The number that s writes: 1 to 20 digits, and below 2 ^ 64.
-pub fn number_in(s: &[u8]) -> Number
+pub fn number_in(s: &[u8]) -> Option<u64>
     ensures { result ≡ number_of s.now }
 {
-    if s.len() == 0 {
-        return Number::Bad;
-    }
-    if s.len() > 20 {
-        return Number::Bad;
+    if s.is_empty() || s.len() > 20 {
+        return None;
     }
     let mut v: u64 = 0;
-    let mut i: usize = 0;
-    while i < s.len() {
-        let b = s[i];
-        if b < 48 {
-            return Number::Bad;
-        }
-        if b > 57 {
-            return Number::Bad;
-        }
-        let d = (b - 48) as u64;
-        if v > (u64::MAX - d) / 10 {
-            return Number::Bad;
-        }
-        v = v * 10 + d;
-        i += 1;
+    for b in s {
+        let d = digit_of(*b)?;
+        v = v.checked_mul(10)?.checked_add(d)?;
     }
-    Number::Value(v)
+    Some(v)
+}
+
+// The digit that a byte writes.
+fn digit_of(b: u8) -> Option<u64>
+    ensures { result ≡ digit_of b }
+{
+    match b {
+        b'0'..=b'9' => Some(u64::from(b - b'0')),
+        _ => None,
+    }
 }

@@ -3,14 +3,14 @@
 
 pub mod decimals;
 
-ghost use Rattle.std.specs.Prelude.{◌≡◌, ◌+◌, ◌≤◌, length, drop};
+ghost use Rattle.std.specs.Prelude.{◌≡◌, ◌≤◌, length, unwrap_or};
 ghost use Rattle.words.specs.Search.{index_of};
 ghost use Rattle.words.specs.Line.{word_of, after_word};
-ghost use Rattle.words.specs.Numbers.{part_of, rest_of, first, second, third, numbers_of};
+ghost use Rattle.words.specs.Numbers.{part_of, rest_of, numbers_of};
 ghost use Rattle.words.specs.Place.{place_of};
-ghost use Rattle.words.specs.declared.decimals.Number.TheVariants.{Value};
+ghost use Rattle.words.specs.declared.Numbers.TheVariants.{Other};
 
-use crate::decimals::{Number, number_in};
+use crate::decimals::number_in;
 
 // Up to three numbers; Other where there are more, or something else.
 #[derive(Clone, Copy)]
@@ -22,108 +22,82 @@ pub enum Numbers {
     Other,
 }
 
-// Where the byte first stands in s, from a place on; where it does not, the end of s.
-fn find(s: &[u8], from: usize, b: u8) -> usize
-    requires { from ≤ length s.now }
-    ensures within { (from ≤ result) × (result ≤ length s.now) }
-    ensures value { result ≡ from + index_of b (drop from s.now) }
+// Where the byte first stands in s; where it does not, the end of s.
+fn find(s: &[u8], b: u8) -> usize
+    ensures within { result ≤ length s.now }
+    ensures value { result ≡ index_of b s.now }
 {
-    let mut i = from;
-    while i < s.len() {
-        if s[i] == b {
-            return i;
-        }
-        i += 1;
-    }
-    i
+    s.iter().position(|x| *x == b).unwrap_or(s.len())
 }
 
 // The word with which a line starts, as far as the first blank.
+#[tactic(auto, unfolding(crate::specs::Line::word_of))]
 pub fn word_in<'a>(line: &'a [u8]) -> &'a [u8]
     ensures { result.now ≡ word_of line.now }
 {
-    let end = find(line, 0, b' ');
-    &line[0..end]
+    &line[..find(line, b' ')]
 }
 
 // What follows that word: from the first blank on.
+#[tactic(auto, unfolding(crate::specs::Line::after_word))]
 pub fn after_word<'a>(line: &'a [u8]) -> &'a [u8]
     ensures { result.now ≡ after_word line.now }
 {
-    let from = find(line, 0, b' ');
-    &line[from..]
+    &line[find(line, b' ')..]
 }
 
 // The numbers of s, each with one blank before it.
 pub fn numbers_in(s: &[u8]) -> Numbers
     ensures { result ≡ numbers_of s.now }
 {
-    if s.len() == 0 {
-        return Numbers::Nothing;
-    }
-    let Number::Value(a) = number_in(part_in(s)) else {
-        return Numbers::Other;
-    };
-    after_one(a, rest_in(s))
+    up_to_three(s).unwrap_or(Numbers::Other)
 }
 
-// The numbers, where one is read and t is left.
-fn after_one(a: u64, t: &[u8]) -> Numbers
-    ensures { result ≡ first (Value a) t.now }
+#[tactic(auto, unfolding(crate::specs::Numbers::numbers_of))]
+fn up_to_three(s: &[u8]) -> Option<Numbers>
+    ensures { unwrap_or result Other ≡ numbers_of s.now }
 {
-    if t.len() == 0 {
-        return Numbers::One(a);
+    if s.is_empty() {
+        return Some(Numbers::Nothing);
     }
-    let Number::Value(b) = number_in(part_in(t)) else {
-        return Numbers::Other;
-    };
-    after_two(a, b, rest_in(t))
-}
-
-fn after_two(a: u64, b: u64, t: &[u8]) -> Numbers
-    ensures { result ≡ second a (Value b) t.now }
-{
-    if t.len() == 0 {
-        return Numbers::Two(a, b);
+    let a = number_in(part_in(s))?;
+    let s = rest_in(s);
+    if s.is_empty() {
+        return Some(Numbers::One(a));
     }
-    let Number::Value(c) = number_in(part_in(t)) else {
-        return Numbers::Other;
-    };
-    after_three(a, b, c, rest_in(t))
-}
-
-fn after_three(a: u64, b: u64, c: u64, t: &[u8]) -> Numbers
-    ensures { result ≡ third a b (Value c) t.now }
-{
-    if t.len() == 0 {
-        return Numbers::Three(a, b, c);
+    let b = number_in(part_in(s))?;
+    let s = rest_in(s);
+    if s.is_empty() {
+        return Some(Numbers::Two(a, b));
     }
-    Numbers::Other
+    let c = number_in(part_in(s))?;
+    if rest_in(s).is_empty() {
+        Some(Numbers::Three(a, b, c))
+    } else {
+        None
+    }
 }
 
 // The part after the blank with which s starts, as far as the next blank. Where s starts otherwise it is empty.
+#[tactic(auto, using(crate::proofs::Parts::part_blank, crate::proofs::Parts::part_other, crate::proofs::Parts::part_none))]
 pub fn part_in<'a>(s: &'a [u8]) -> &'a [u8]
     ensures { result.now ≡ part_of s.now }
 {
-    if s.len() == 0 {
-        return s;
+    match s {
+        [b' ', part @ ..] => word_in(part),
+        _ => &[],
     }
-    if s[0] != b' ' {
-        return &s[0..0];
-    }
-    let end = find(s, 1, b' ');
-    &s[1..end]
 }
 
 // What follows the first part: from the next blank on.
+#[tactic(auto, using(crate::proofs::Parts::rest_after, crate::proofs::Parts::rest_none))]
 pub fn rest_in<'a>(s: &'a [u8]) -> &'a [u8]
     ensures { result.now ≡ rest_of s.now }
 {
-    if s.len() == 0 {
-        return s;
+    match s {
+        [_, rest @ ..] => after_word(rest),
+        [] => s,
     }
-    let from = find(s, 1, b' ');
-    &s[from..]
 }
 
 // How many words of a list stand before this one: all, where it is not there. Each has one blank before it.
@@ -131,14 +105,12 @@ pub fn place_of(word: &[u8], list: &[u8]) -> usize
     ensures { result ≡ place_of word.now list.now }
 {
     let mut left = list;
-    let mut k: usize = 0;
-    while 0 < left.len() {
-        if word == part_in(left) {
+    // A part takes a byte of the list at least.
+    for k in 0..list.len() {
+        if left.is_empty() || word == part_in(left) {
             return k;
         }
-        let rest = rest_in(left);
-        left = rest;
-        k += 1;
+        left = rest_in(left);
     }
-    k
+    list.len()
 }

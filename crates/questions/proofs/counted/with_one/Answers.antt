@@ -1,16 +1,18 @@
--- `questions::counted::with_one` meets its contract: the list in the code has the words of `with_one`, in their order. Assumes nothing.
+-- `questions::counted::with_one` meets its contract: the answers that are lists. Assumes nothing.
 use lib.ListN.{length}
-use Rattle.words.specs.Search.{index_of}
-use Rattle.words.specs.Numbers.{end_of, part_of, rest_of}
-use Rattle.measure.specs.Epoch.{shoushi}
-use Rattle.words.specs.Place.{place_within, place_of}
-use Rattle.words.proofs.Chosen.{placed}
-use Rattle.questions.specs.DeskReply.{malformed}
+use Rattle.words.specs.Choice.{chosen}
+use Rattle.words.specs.Text.{same}
 use Rattle.questions.specs.Question.{with_one}
-use Rattle.questions.proofs.Answered.{answers_as}
+use Rattle.questions.proofs.Answered.{terms_answers, year_answers}
+use Rattle.questions.proofs.Listed.{terms_long, year_long}
 use Rattle.questions.proofs.counted.with_one.Goals as goal
 
-pub returns : goal.returns
-unfolding index_of end_of part_of rest_of place_within place_of with_one
-returns c =
-    answers_as (placed malformed c.args.word.now (with_one shoushi (length c.args.row.now) c.args.n) c.place_of.result c.place_of.ensures) c.one_at.ensures
+pub returns-in-terms : goal.returns-in-terms
+unfolding chosen same with_one
+returns-in-terms c =
+    rw c.in-terms.is (terms_answers _ _ _ _ _ c.terms.ensures.value c.terms.ensures.writes (terms_long c.args.n (length c.args.row.now)))
+
+pub returns-in-year : goal.returns-in-year
+unfolding chosen same with_one
+returns-in-year c =
+    rw c.in-year.is (year_answers _ _ _ _ _ c.list.ensures.value c.list.ensures.writes (year_long c.args.n _))

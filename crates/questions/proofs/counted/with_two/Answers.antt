@@ -1,16 +1,12 @@
--- `questions::counted::with_two` meets its contract: the list in the code has the words of `with_two`, in their order. Assumes nothing.
-use lib.ListN.{length}
-use Rattle.words.specs.Search.{index_of}
-use Rattle.words.specs.Numbers.{end_of, part_of, rest_of}
-use Rattle.measure.specs.Epoch.{shoushi}
-use Rattle.words.specs.Place.{place_within, place_of}
-use Rattle.words.proofs.Chosen.{placed}
-use Rattle.questions.specs.DeskReply.{malformed}
+-- `questions::counted::with_two` meets its contract: the answer that is a list. Assumes nothing.
+use Rattle.words.specs.Choice.{chosen}
+use Rattle.words.specs.Text.{same}
 use Rattle.questions.specs.Question.{with_two}
-use Rattle.questions.proofs.Answered.{answers_as}
+use Rattle.questions.proofs.Answered.{years_answers}
+use Rattle.questions.proofs.Listed.{run_long}
 use Rattle.questions.proofs.counted.with_two.Goals as goal
 
-pub returns : goal.returns
-unfolding index_of end_of part_of rest_of place_within place_of with_two
-returns c =
-    answers_as (placed malformed c.args.word.now (with_two shoushi (length c.args.row.now) c.args.n c.args.i) c.place_of.result c.place_of.ensures) c.two_at.ensures
+pub returns-in-years : goal.returns-in-years
+unfolding chosen same with_two
+returns-in-years c =
+    rw c.in-years.is (years_answers _ _ _ _ _ c.run.ensures.value c.run.ensures.writes (run_long c.args.n c.args.i _))

@@ -8,6 +8,7 @@ use Rattle.words.specs.declared.Numbers.TheVariants.{Nothing, One, Two, Three, O
 use Rattle.questions.specs.Question.{on_half}
 use Rattle.questions.specs.DeskReply.{malformed}
 use Rattle.questions.proofs.Answered.{answers_as, no_question}
+use Rattle.questions.proofs.NoText.{no_half}
 use Rattle.questions.proofs.halves.on_half.Goals as goal
 
 -- where there is not one number, nothing is asked
@@ -21,6 +22,13 @@ not_one word half Other k = refl
 pub returns-in_default : goal.returns-in_default
 returns-in_default c =
     let told : malformed ≡ on_half c.args.word.now (part_of c.args.rest.now) (numbers_of (rest_of c.args.rest.now)) =
-    simp (← c.rest_in.ensures, ← c.numbers_in-numbers.ensures)
-    (not_one c.args.word.now (part_of c.args.rest.now) c.numbers_in-numbers.result c.in_default.not-One) in
+    simp (← c.rest_in.ensures, ← c.numbers_in.ensures)
+    (not_one c.args.word.now (part_of c.args.rest.now) c.numbers_in.result c.in_default.not-One) in
+    λ row. answers_as told (no_question row)
+
+pub returns-in-Err : goal.returns-in-Err
+returns-in-Err c =
+    let told : malformed ≡ on_half c.args.word.now (part_of c.args.rest.now) (numbers_of (rest_of c.args.rest.now)) =
+    simp (← c.rest_in.ensures, ← c.part_in.ensures, ← c.numbers_in.ensures, c.in-One.is)
+    (no_half c.args.word.now c.part_in.result.now c.in-One.t c.in-Err.ensures.cases.0) in
     λ row. answers_as told (no_question row)

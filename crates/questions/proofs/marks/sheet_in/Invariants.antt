@@ -1,5 +1,5 @@
--- `marks::sheet_in` meets its contract. The loop's invariant: the sheet has the marks of what was read, and all marks of the text are
--- these and then those of what is left. The measure is what is left. Assumes nothing.
+-- The sheet has the marks of what was read, and all marks of the text are these and then those of what is left. The measure is what is
+-- left. Assumes nothing.
 use lib.ListN.{length}
 use Rattle.questions.proofs.MarkLaws.{ReadTo}
 use Rattle.questions.proofs.marks.sheet_in.Given as goal
