@@ -7,7 +7,7 @@ use native.Mathlib.Omega.{arith}
 use lib.ListN.{length}
 use Rattle.rows.specs.Reply.{Reply, answer, refused, answer_said}
 use Rattle.rows.specs.Row.{over, row_after}
-use Rattle.std.specs.Prelude.{Option, Result}
+use Rattle.std.specs.Prelude.{Result}
 use Rattle.rows.specs.declared.Refusal.{Refusal}
 use Rattle.rows.proofs.Row.{written, over_least}
 use Rattle.measure.specs.Units.{last_year}

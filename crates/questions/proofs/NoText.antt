@@ -1,8 +1,8 @@
 -- Laws of bytes that are no text: as a line's word, as a half or as a mark's word they ask nothing.
 -- Assumes nothing.
-use Rattle.std.specs.Prelude.{Option, Some, None, Result, Ok, Err, is_ok, MatchResult, if◌then◌else◌}
+use Rattle.std.specs.Prelude.{Option, Some, None, if◌then◌else◌}
 use Rattle.std.specs.Str.{IsUtf8}
-use mathlib.Core.Bool.{Bool, true, false, false≢true}
+use mathlib.Core.Bool.{Bool, true, false}
 use mathlib.Core.List.{List}
 use mathlib.Core.Path.{◌≡◌, refl, sym}
 use Prim.Native.Nat.{ℕ}
@@ -15,7 +15,7 @@ use Rattle.words.specs.Numbers.{part_of, rest_of, numbers_of}
 use Rattle.words.specs.Ascii.{bytes_of}
 use Rattle.words.specs.Choice.{chosen}
 use Rattle.words.specs.declared.Numbers.{Numbers}
-use Rattle.words.specs.declared.Numbers.TheVariants.{Nothing, One, Two, Three, Other}
+use Rattle.words.specs.declared.Numbers.TheVariants.{Nothing, One, Two, Three}
 use Rattle.words.proofs.Chosen.{not_ascii, none_chosen}
 use Rattle.questions.specs.DeskReply.{malformed}
 use Rattle.questions.specs.MarkWords.{showing, number_marked, mark_of}
@@ -24,11 +24,6 @@ use Rattle.questions.specs.Question.{◌among◌, alone, with_one, with_two, wit
 if_same : (t : Bool) → (if t then malformed else malformed) ≡ malformed
 if_same true = refl
 if_same false = refl
-
--- what is said of bytes that are read as no text
-pub unread : {A E : Type 0} (C : Type 0) (P : A → Type 0) (Q : E → Type 0) (r : Result A E) → false ≡ is_ok r → MatchResult r P (λ e. C × Q e) → C
-unread C P Q (Ok x) e m = absurd (false≢true e)
-unread C P Q (Err x) e m = m.0
 
 pub no_half : (word half : List ℕ) (t : ℕ) → (IsUtf8 half → ⊥) → malformed ≡ word among with_half half t
 unfolding chosen with_half solar_in lunar_in motion_in
@@ -41,21 +36,21 @@ no_half word half t h =
     ))
 
 module _ (word : List ℕ) (h : IsUtf8 word → ⊥) where
-  on_half_lem : (half : List ℕ) (n : Numbers) → malformed ≡ on_half word half n
+  on_half_lem : (half : List ℕ) (n : Option Numbers) → malformed ≡ on_half word half n
   unfolding with_half
-  on_half_lem half Nothing = refl
-  on_half_lem half (One t) = none_chosen word h malformed (with_half half t) refl
-  on_half_lem half (Two a b) = refl
-  on_half_lem half (Three a b c) = refl
-  on_half_lem half Other = refl
+  on_half_lem half (Some Nothing) = refl
+  on_half_lem half (Some (One t)) = none_chosen word h malformed (with_half half t) refl
+  on_half_lem half (Some (Two a b)) = refl
+  on_half_lem half (Some (Three a b c)) = refl
+  on_half_lem half None = refl
 
-  on_numbers_lem : (e : Epoch) (room : ℕ) (rest : List ℕ) (n : Numbers) → malformed ≡ on_numbers e room word rest n
+  on_numbers_lem : (e : Epoch) (room : ℕ) (rest : List ℕ) (n : Option Numbers) → malformed ≡ on_numbers e room word rest n
   unfolding alone with_one with_two with_three
-  on_numbers_lem e room rest Nothing = none_chosen word h malformed alone refl
-  on_numbers_lem e room rest (One n) = none_chosen word h malformed (with_one e room n) refl
-  on_numbers_lem e room rest (Two n i) = none_chosen word h malformed (with_two e room n i) refl
-  on_numbers_lem e room rest (Three n i p) = none_chosen word h malformed (with_three e n i p) refl
-  on_numbers_lem e room rest Other = on_half_lem (part_of rest) (numbers_of (rest_of rest))
+  on_numbers_lem e room rest (Some Nothing) = none_chosen word h malformed alone refl
+  on_numbers_lem e room rest (Some (One n)) = none_chosen word h malformed (with_one e room n) refl
+  on_numbers_lem e room rest (Some (Two n i)) = none_chosen word h malformed (with_two e room n i) refl
+  on_numbers_lem e room rest (Some (Three n i p)) = none_chosen word h malformed (with_three e n i p) refl
+  on_numbers_lem e room rest None = on_half_lem (part_of rest) (numbers_of (rest_of rest))
 
 pub no_word : (e : Epoch) (room : ℕ) (line : List ℕ) → (longest <? length line) ≡ false → (IsUtf8 (word_of line) → ⊥) → malformed ≡ reply_to e room line
 unfolding reply_to

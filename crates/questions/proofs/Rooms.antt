@@ -1,6 +1,6 @@
 -- How many numbers a line's list takes: a number for each year is enough for every list but the months of many years.
 -- Assumes nothing.
-use Rattle.std.specs.Prelude.{if◌then◌else◌}
+use Rattle.std.specs.Prelude.{Option, Some, None, if◌then◌else◌}
 use mathlib.Core.Bool.{false}
 use mathlib.Core.List.{List}
 use mathlib.Core.Path.{◌≡◌, refl, ap, ap₂}
@@ -19,7 +19,7 @@ use Rattle.words.specs.Line.{word_of, after_word}
 use Rattle.words.specs.Numbers.{numbers_of}
 use Rattle.words.specs.Text.{◌is◌}
 use Rattle.words.specs.declared.Numbers.{Numbers}
-use Rattle.words.specs.declared.Numbers.TheVariants.{Nothing, One, Two, Three, Other}
+use Rattle.words.specs.declared.Numbers.TheVariants.{Nothing, One, Two, Three}
 use Rattle.sheets.specs.Marks.{agreeing}
 use Rattle.sheets.specs.declared.Mark.{Mark}
 use Rattle.sheets.proofs.OnSheet.{sheet_in_room}
@@ -32,16 +32,16 @@ module _ (a b : ℕ) (h : suc last_year ≤ a) (g : suc last_year ≤ b) where
   on_marks_lem (answer marks) = ap (λ (r : Reply ℕ). sheet (as_list r (agreeing shoushi marks))) (sheet_in_room shoushi marks a b h g)
   on_marks_lem (refused k) = refl
 
-  on_numbers_lem : (word rest : List ℕ) (n : Numbers) → (word is "years") ≡ false → on_numbers shoushi a word rest n ≡ on_numbers shoushi b word rest n
+  on_numbers_lem : (word rest : List ℕ) (n : Option Numbers) → (word is "years") ≡ false → on_numbers shoushi a word rest n ≡ on_numbers shoushi b word rest n
   unfolding chosen with_one with_two
-  on_numbers_lem word rest Nothing other = refl
-  on_numbers_lem word rest (One n) other =
+  on_numbers_lem word rest (Some Nothing) other = refl
+  on_numbers_lem word rest (Some (One n)) other =
       let ra : year_room ≤ a / record_width = omega arith in
       let rb : year_room ≤ b / record_width = omega arith in
       simp (terms_in_room n a b (omega arith) (omega arith), list_in_room shoushi n (a / record_width) (b / record_width) ra rb)
-  on_numbers_lem word rest (Two n i) other = simp other
-  on_numbers_lem word rest (Three n i p) other = refl
-  on_numbers_lem word rest Other other = refl
+  on_numbers_lem word rest (Some (Two n i)) other = simp other
+  on_numbers_lem word rest (Some (Three n i p)) other = refl
+  on_numbers_lem word rest None other = refl
 
   pub enough : (line : List ℕ) → (word_of line is "years") ≡ false → reply_to shoushi a line ≡ reply_to shoushi b line
   unfolding reply_to

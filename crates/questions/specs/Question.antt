@@ -1,13 +1,13 @@
 -- The questions: which words there are, which numbers follow each, and the reply. A question is words and decimal numbers with
 -- one blank between them, and whatever is no question is refused. Where a list is asked for, `room` is how many numbers the lent row has.
 -- Assumes nothing.
-use Rattle.std.specs.Prelude.{ℕ, ◌/◌, List, [], ◌∷◌, length, if◌then◌else◌}
+use Rattle.std.specs.Prelude.{ℕ, ◌/◌, Option, Some, None, List, [], ◌∷◌, length, if◌then◌else◌}
 use Rattle.words.specs.Line.{word_of, after_word}
 use Rattle.words.specs.Choice.{Choices, chosen}
 use Rattle.words.specs.Numbers.{part_of, rest_of, numbers_of}
 use Rattle.words.specs.Text.{◌is◌}
 use Rattle.words.specs.declared.Numbers.{Numbers}
-use Rattle.words.specs.declared.Numbers.TheVariants.{Nothing, One, Two, Three, Other}
+use Rattle.words.specs.declared.Numbers.TheVariants.{Nothing, One, Two, Three}
 use Rattle.rows.specs.Choice.{◌<?◌}
 use Rattle.rows.specs.Reply.{Reply, answer, refused}
 use Rattle.measure.specs.Epoch.{Epoch}
@@ -99,20 +99,20 @@ with_half half t =
     ∷ []
 
 -- the word, the half and the numbers after it, of which there is one
-abbrev pub on_half : List ℕ → List ℕ → Numbers → DeskReply
-on_half word half (One t) = word among with_half half t
-on_half word half Nothing = malformed
-on_half word half (Two a b) = malformed
-on_half word half (Three a b c) = malformed
-on_half word half Other = malformed
+abbrev pub on_half : List ℕ → List ℕ → Option Numbers → DeskReply
+on_half word half (Some (One t)) = word among with_half half t
+on_half word half (Some Nothing) = malformed
+on_half word half (Some (Two a b)) = malformed
+on_half word half (Some (Three a b c)) = malformed
+on_half word half None = malformed
 
 -- the word and the numbers that the rest of the line is; where it is none, it starts with a half
-abbrev pub on_numbers : Epoch → ℕ → List ℕ → List ℕ → Numbers → DeskReply
-on_numbers e room word rest Nothing = word among alone
-on_numbers e room word rest (One n) = word among with_one e room n
-on_numbers e room word rest (Two n i) = word among with_two e room n i
-on_numbers e room word rest (Three n i p) = word among with_three e n i p
-on_numbers e room word rest Other = on_half word (part_of rest) (numbers_of (rest_of rest))
+abbrev pub on_numbers : Epoch → ℕ → List ℕ → List ℕ → Option Numbers → DeskReply
+on_numbers e room word rest (Some Nothing) = word among alone
+on_numbers e room word rest (Some (One n)) = word among with_one e room n
+on_numbers e room word rest (Some (Two n i)) = word among with_two e room n i
+on_numbers e room word rest (Some (Three n i p)) = word among with_three e n i p
+on_numbers e room word rest None = on_half word (part_of rest) (numbers_of (rest_of rest))
 
 -- the longest line that is answered
 abbrev pub longest : ℕ

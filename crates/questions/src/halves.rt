@@ -13,10 +13,11 @@ use rows::Refusal;
 use words::Numbers;
 
 // After the half there is one number.
+#[tactic(auto, using(crate::proofs::NoText::no_half), unfolding(rows::specs::Row::over))]
 pub(crate) fn on_half(word: &str, rest: &[u8]) -> DeskAnswer<Refusal>
     ensures { (row : List ℕ) → Answers (on_half word.now (part_of rest.now) (numbers_of (rest_of rest.now))) result row row }
 {
-    let Numbers::One(t) = words::numbers_in(words::rest_in(rest)) else {
+    let Some(Numbers::One(t)) = words::numbers_in(words::rest_in(rest)) else {
         return DeskAnswer::Malformed;
     };
     match str::from_utf8(words::part_in(rest)) {

@@ -49,6 +49,7 @@ pub const LONGEST: usize = 1_023;
 
 // The answer to a line: its first word says what is asked, and the rest of what. A list goes into the row from its start; a row too short for
 // it is refused with 4.
+#[tactic(auto, using(words::proofs::Same::alike, words::proofs::Same::unlike, crate::proofs::NoText::no_word), unfolding(crate::specs::Question::reply_to, rows::specs::Row::over))]
 pub fn ask(line: &[u8], row: &mut [u64]) -> DeskAnswer<Refusal>
     ensures { Answers (reply_to shoushi (length row.old) line.now) result row.old row.new }
 {
@@ -68,10 +69,10 @@ fn by_numbers(word: &str, rest: &[u8], row: &mut [u64]) -> DeskAnswer<Refusal>
     ensures { Answers (on_numbers shoushi (length row.old) word.now rest.now (numbers_of rest.now)) result row.old row.new }
 {
     match words::numbers_in(rest) {
-        Numbers::Nothing => counted::alone(word),
-        Numbers::One(n) => counted::with_one(word, n, row),
-        Numbers::Two(n, i) => counted::with_two(word, n, i, row),
-        Numbers::Three(n, i, p) => counted::with_three(word, n, i, p),
-        Numbers::Other => halves::on_half(word, rest),
+        Some(Numbers::Nothing) => counted::alone(word),
+        Some(Numbers::One(n)) => counted::with_one(word, n, row),
+        Some(Numbers::Two(n, i)) => counted::with_two(word, n, i, row),
+        Some(Numbers::Three(n, i, p)) => counted::with_three(word, n, i, p),
+        None => halves::on_half(word, rest),
     }
 }

@@ -13,6 +13,7 @@ use words::decimals::number_in;
 use words::{part_in, rest_in};
 
 // The years that agree with the marks of a text, in the row. A text that is not all marks is no sheet.
+#[tactic(auto, using(crate::proofs::SheetLaws::no_sheet), unfolding(rows::specs::Row::over))]
 pub(crate) fn on_marks(text: &[u8], row: &mut [u64]) -> DeskAnswer<Refusal>
     ensures { Answers (on_marks shoushi (length row.old) (marks_in text.now)) result row.old row.new }
 {
@@ -23,6 +24,7 @@ pub(crate) fn on_marks(text: &[u8], row: &mut [u64]) -> DeskAnswer<Refusal>
 }
 
 // The sheet with the marks of a text that is nothing but marks.
+#[tactic(auto, using(crate::proofs::MarkLaws::after_shorter, crate::proofs::MarkLaws::nothing_read, crate::proofs::MarkLaws::read_more))]
 fn sheet_in(text: &[u8]) -> Option<Sheet>
     ensures { result ≡ sheet_read (marks_in text.now) }
 {
@@ -36,7 +38,7 @@ fn sheet_in(text: &[u8]) -> Option<Sheet>
 }
 
 // The mark with which a text starts.
-#[tactic(auto, using(words::proofs::Same::alike, words::proofs::Same::unlike, words::proofs::Chosen::not_ascii), unfolding(crate::specs::MarkWords::mark_of))]
+#[tactic(auto, using(words::proofs::Same::alike, words::proofs::Same::unlike, crate::proofs::NoText::no_mark_word), unfolding(crate::specs::MarkWords::mark_of))]
 fn mark_in(s: &[u8]) -> Option<Mark>
     ensures { result ≡ mark_of s.now }
 {

@@ -4,7 +4,7 @@ use Rattle.words.specs.Search.{index_of}
 use Rattle.words.specs.Ascii.{bytes_of}
 use Rattle.std.specs.Prelude.{Some, None}
 use Rattle.words.specs.Number.{digits, value, is_number, number_of}
-use Rattle.words.specs.declared.Numbers.TheVariants.{Nothing, Two, Other}
+use Rattle.words.specs.declared.Numbers.TheVariants.{Nothing, Two}
 use Rattle.words.specs.Numbers.{end_of, part_of, rest_of, numbers_of}
 
 -- the largest number and the next, twenty digits and one more, nothing, and a sign
@@ -18,10 +18,10 @@ unfolding digits value is_number number_of
 numbers = (refl, refl, refl, refl, refl, refl)
 
 -- a pair, two blanks, a blank at the end, four numbers, and none
-lines : (numbers_of (bytes_of " 999 23") ≡ Two 999 23)
-    × (numbers_of (bytes_of " 999  23") ≡ Other)
-    × (numbers_of (bytes_of " 999 ") ≡ Other)
-    × (numbers_of (bytes_of " 1 2 3 4") ≡ Other)
-    × (numbers_of (bytes_of "") ≡ Nothing)
+lines : (numbers_of (bytes_of " 999 23") ≡ Some (Two 999 23))
+    × (numbers_of (bytes_of " 999  23") ≡ None)
+    × (numbers_of (bytes_of " 999 ") ≡ None)
+    × (numbers_of (bytes_of " 1 2 3 4") ≡ None)
+    × (numbers_of (bytes_of "") ≡ Some Nothing)
 unfolding digits value is_number number_of index_of end_of part_of rest_of numbers_of
 lines = (refl, refl, refl, refl, refl)

@@ -2,7 +2,7 @@
 use Rattle.std.specs.Prelude.{ℕ, ◌+◌, ◌-◌, List, [], Bool, cond, length, get_or, take, drop, eqb, Option, Some, None}
 use Rattle.words.specs.Search.{index_of}
 use Rattle.words.specs.declared.Numbers.{Numbers}
-use Rattle.words.specs.declared.Numbers.TheVariants.{Nothing, One, Two, Three, Other}
+use Rattle.words.specs.declared.Numbers.TheVariants.{Nothing, One, Two, Three}
 use Rattle.words.specs.Number.{number_of}
 
 abbrev pub is_empty : List ℕ → Bool
@@ -21,18 +21,18 @@ unfoldable pub rest_of : List ℕ → List ℕ
 rest_of s = drop (end_of s) s
 
 -- the numbers, once some are read, the next one is, and what is left is t
-abbrev pub third : ℕ → ℕ → Option ℕ → List ℕ → Numbers
-third a b (Some c) t = cond (is_empty t) (Three a b c) Other
-third a b None t = Other
+abbrev pub third : ℕ → ℕ → Option ℕ → List ℕ → Option Numbers
+third a b (Some c) t = cond (is_empty t) (Some (Three a b c)) None
+third a b None t = None
 
-abbrev pub second : ℕ → Option ℕ → List ℕ → Numbers
-second a (Some b) t = cond (is_empty t) (Two a b) (third a b (number_of (part_of t)) (rest_of t))
-second a None t = Other
+abbrev pub second : ℕ → Option ℕ → List ℕ → Option Numbers
+second a (Some b) t = cond (is_empty t) (Some (Two a b)) (third a b (number_of (part_of t)) (rest_of t))
+second a None t = None
 
-abbrev pub first : Option ℕ → List ℕ → Numbers
-first (Some a) t = cond (is_empty t) (One a) (second a (number_of (part_of t)) (rest_of t))
-first None t = Other
+abbrev pub first : Option ℕ → List ℕ → Option Numbers
+first (Some a) t = cond (is_empty t) (Some (One a)) (second a (number_of (part_of t)) (rest_of t))
+first None t = None
 
--- up to three numbers; Other where there are more, or something else
-unfoldable pub numbers_of : List ℕ → Numbers
-numbers_of s = cond (is_empty s) Nothing (first (number_of (part_of s)) (rest_of s))
+-- up to three numbers; None where there are more, or something else
+unfoldable pub numbers_of : List ℕ → Option Numbers
+numbers_of s = cond (is_empty s) (Some Nothing) (first (number_of (part_of s)) (rest_of s))

@@ -3,23 +3,21 @@
 
 pub mod decimals;
 
-ghost use Rattle.std.specs.Prelude.{◌≡◌, ◌≤◌, length, unwrap_or};
+ghost use Rattle.std.specs.Prelude.{◌≡◌, ◌≤◌, length};
 ghost use Rattle.words.specs.Search.{index_of};
 ghost use Rattle.words.specs.Line.{word_of, after_word};
 ghost use Rattle.words.specs.Numbers.{part_of, rest_of, numbers_of};
 ghost use Rattle.words.specs.Place.{place_of};
-ghost use Rattle.words.specs.declared.Numbers.TheVariants.{Other};
 
 use crate::decimals::number_in;
 
-// Up to three numbers; Other where there are more, or something else.
+// Up to three numbers.
 #[derive(Clone, Copy)]
 pub enum Numbers {
     Nothing,
     One(u64),
     Two(u64, u64),
     Three(u64, u64, u64),
-    Other,
 }
 
 // Where the byte first stands in s; where it does not, the end of s.
@@ -46,16 +44,10 @@ pub fn after_word<'a>(line: &'a [u8]) -> &'a [u8]
     &line[find(line, b' ')..]
 }
 
-// The numbers of s, each with one blank before it.
-pub fn numbers_in(s: &[u8]) -> Numbers
-    ensures { result ≡ numbers_of s.now }
-{
-    up_to_three(s).unwrap_or(Numbers::Other)
-}
-
+// The numbers of s, each with one blank before it; none where there are more than three, or something else.
 #[tactic(auto, unfolding(crate::specs::Numbers::numbers_of))]
-fn up_to_three(s: &[u8]) -> Option<Numbers>
-    ensures { unwrap_or result Other ≡ numbers_of s.now }
+pub fn numbers_in(s: &[u8]) -> Option<Numbers>
+    ensures { result ≡ numbers_of s.now }
 {
     if s.is_empty() {
         return Some(Numbers::Nothing);
