@@ -1,7 +1,7 @@
 -- Laws of numbers in decimal digits: when a reader may stop, and what it has then. Assumes nothing.
-use mathlib.Core.Path.{◌≡◌, ◌∙◌, refl, sym, ap}
+use mathlib.Core.Path.{◌≡◌, ◌∙◌, sym, ap}
 use mathlib.Core.List.{List}
-use mathlib.Core.Bool.{Bool, true, false, cond, ◌&&◌, and-false}
+use mathlib.Core.Bool.{true, false, ◌&&◌, and-false}
 use Prim.Native.Nat.{ℕ, zero, suc, ◌+◌, ◌-◌, ◌*◌, ◌^◌, ◌≤◌, ◌<◌}
 use native.Mathlib.Nat.{add-zero, add-suc, le_refl}
 use native.Mathlib.Numerals.{add-one}
@@ -9,17 +9,10 @@ use native.Mathlib.Omega.{arith}
 use borrow.Author.Tests.{le-leb, lt-leb, lt-ltb, le-ltb}
 use lib.ListN.{length, get_or}
 use Rattle.std.specs.Prelude.{Some, None}
-use Rattle.std.proofs.lemmas.Option.{none-some, cond_some}
+use Rattle.std.proofs.lemmas.Option.{cond_some}
 use Rattle.words.specs.Number.{is_digit, digit_of, digits, value, is_number, number_of}
 
--- what an answer to a byte says of it
-pub not_digit : (b : ℕ) → digit_of b ≡ None → is_digit b ≡ false
-not_digit b e = by (is_digit b) e
-  where
-    by : (t : Bool) → cond t (Some (b - 48)) None ≡ None → t ≡ false
-    by true f = absurd (none-some (b - 48) (sym f))
-    by false f = refl
-
+-- what a digit that was read says of its byte
 pub a_digit : (b d : ℕ) → digit_of b ≡ Some d → (is_digit b ≡ true) × (b - 48 ≡ d)
 a_digit b d e = cond_some (is_digit b) (b - 48) d e
 

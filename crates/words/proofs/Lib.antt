@@ -1,5 +1,6 @@
 pub mod Digits
 pub mod Search
+pub mod Found
 pub mod Examples
 pub mod Chosen
 pub mod Parts

@@ -11,6 +11,15 @@ use Rattle.words.specs.Search.{index_of}
 use Rattle.words.specs.Line.{word_of, after_word}
 use Rattle.words.specs.Numbers.{end_of, part_of, rest_of}
 
+-- where the word ends, as a search from the line's start answers it
+pub word_end_is : (line : List ℕ) → 0 + index_of 32 (drop 0 line) ≡ index_of 32 line
+word_end_is line = omega arith
+
+-- and the part, as a search from the place after its blank does
+pub end_is : (s : List ℕ) → 1 + index_of 32 (drop 1 s) ≡ end_of s
+unfolding end_of
+end_is s = refl
+
 module _ (s : List ℕ) where
   -- a text without its first byte, as a pattern gives it
   past_first : take (length s - 1) (drop 1 s) ≡ drop 1 s

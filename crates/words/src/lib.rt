@@ -93,6 +93,7 @@ pub fn rest_in<'a>(s: &'a [u8]) -> &'a [u8]
 }
 
 // How many words of a list stand before this one: all, where it is not there. Each has one blank before it.
+#[tactic(auto, using(crate::proofs::Same::same_bytes, crate::proofs::Within::at_end, crate::proofs::Within::is_here, crate::proofs::Within::is_later), unfolding(crate::specs::Place::place_of))]
 pub fn place_of(word: &[u8], list: &[u8]) -> usize
     ensures { result ≡ place_of word.now list.now }
 {

@@ -2,7 +2,7 @@
 use Rattle.std.proofs.Common.{◌∙◌, rules, tests}
 use Rattle.std.proofs.lemmas.Iterator.{YieldsList-from_slice}
 use Rattle.std.proofs.lemmas.Iterator.Search.{position_from_yields_List}
-use Rattle.words.proofs.Search.{is_b, found}
+use Rattle.words.proofs.Found.{is_b, found}
 use Rattle.words.proofs.find.Goals as goal
 
 pub returns-clause-value : goal.returns-clause-value
