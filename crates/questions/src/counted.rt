@@ -1,4 +1,4 @@
-// The questions by how many numbers follow the word.
+// The questions by how many numbers follow the word: four lists, each with words, numbers and answers of its own.
 #![tactic(auto, using(words::proofs::Same::alike, words::proofs::Same::unlike), unfolding(crate::specs::Question::alone, crate::specs::Question::with_one, crate::specs::Question::with_two, crate::specs::Question::with_three, words::specs::Choice::chosen, rows::specs::Row::over))]
 
 ghost use Rattle.std.specs.Prelude.{List, ℕ, length};

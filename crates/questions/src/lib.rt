@@ -20,7 +20,7 @@ use words::Numbers;
 // The calendar's answer, by the kind of what was asked for, with what tells of a refusal.
 #[derive(Clone, Copy)]
 pub enum DeskAnswer<R> {
-    // No question.
+    // No question: a kind like the others, since a line is written for it too.
     Malformed,
     Number(Result<u64, R>),
     // A running time.

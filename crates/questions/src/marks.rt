@@ -30,6 +30,7 @@ fn sheet_in(text: &[u8]) -> Option<Sheet>
 {
     let mut sheet = sheets::blank();
     let mut left = text;
+    // A mark alone says where the next begins: no iterator of the library does.
     while !left.is_empty() {
         sheet = sheets::with_mark(sheet, mark_in(left)?);
         left = after_mark(left);
@@ -55,7 +56,7 @@ fn mark_in(s: &[u8]) -> Option<Mark>
 
 // What follows it: a leap mark has no number after its place.
 #[tactic(auto, using(words::proofs::Same::alike, words::proofs::Same::unlike, words::proofs::Chosen::not_ascii), unfolding(crate::specs::MarkWords::after_mark))]
-fn after_mark<'a>(s: &'a [u8]) -> &'a [u8]
+fn after_mark(s: &[u8]) -> &[u8]
     ensures { result.now ≡ after_mark s.now }
 {
     let rest = rest_in(rest_in(s));

@@ -30,7 +30,7 @@ fn find(s: &[u8], b: u8) -> usize
 
 // The word with which a line starts, as far as the first blank.
 #[tactic(auto, unfolding(crate::specs::Line::word_of))]
-pub fn word_in<'a>(line: &'a [u8]) -> &'a [u8]
+pub fn word_in(line: &[u8]) -> &[u8]
     ensures { result.now ≡ word_of line.now }
 {
     &line[..find(line, b' ')]
@@ -38,7 +38,7 @@ pub fn word_in<'a>(line: &'a [u8]) -> &'a [u8]
 
 // What follows that word: from the first blank on.
 #[tactic(auto, unfolding(crate::specs::Line::after_word))]
-pub fn after_word<'a>(line: &'a [u8]) -> &'a [u8]
+pub fn after_word(line: &[u8]) -> &[u8]
     ensures { result.now ≡ after_word line.now }
 {
     &line[find(line, b' ')..]
@@ -72,7 +72,7 @@ pub fn numbers_in(s: &[u8]) -> Option<Numbers>
 
 // The part after the blank with which s starts, as far as the next blank. Where s starts otherwise it is empty.
 #[tactic(auto, using(crate::proofs::Parts::part_blank, crate::proofs::Parts::part_other, crate::proofs::Parts::part_none))]
-pub fn part_in<'a>(s: &'a [u8]) -> &'a [u8]
+pub fn part_in(s: &[u8]) -> &[u8]
     ensures { result.now ≡ part_of s.now }
 {
     match s {
@@ -83,7 +83,7 @@ pub fn part_in<'a>(s: &'a [u8]) -> &'a [u8]
 
 // What follows the first part: from the next blank on.
 #[tactic(auto, using(crate::proofs::Parts::rest_after, crate::proofs::Parts::rest_none))]
-pub fn rest_in<'a>(s: &'a [u8]) -> &'a [u8]
+pub fn rest_in(s: &[u8]) -> &[u8]
     ensures { result.now ≡ rest_of s.now }
 {
     match s {
