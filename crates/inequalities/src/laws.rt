@@ -35,6 +35,7 @@ pub const LAW_MOON: Coefficients = Coefficients {
 const FINE: u64 = 10_000;
 
 // A law at a time, or at limits counted in as many parts. The rest is dropped at each quotient.
+#[tactic(auto, unfolding(crate::specs::Law::law, crate::specs::Law::taken))]
 pub(crate) fn law_at(c: Coefficients, t: u64) -> u64
     requires { Evaluated (law_said c) t }
     ensures { result ≡ law (law_said c) t }

@@ -34,6 +34,7 @@ pub(crate) fn whole(time: u64) -> u64
 }
 
 // What is past the middle counts from the end, and past the end there is nothing.
+#[tactic(auto, unfolding(crate::specs::Limits::from_nearer_end))]
 pub(crate) fn from_nearer_end(n: u64, middle: u64) -> u64
     requires { middle ≤ day * day }
     ensures { result ≡ from_nearer_end n middle }

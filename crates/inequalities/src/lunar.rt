@@ -49,6 +49,7 @@ fn in_half(half: LunarHalf, time: u64) -> i64
 }
 
 // The magnitude of the lunar inequality at a time in either half.
+#[tactic(auto, using(crate::proofs::NearerEnd::nearer_le, crate::proofs::NearerEnd::magnitude_nearer))]
 fn magnitude(time: u64) -> u64
     requires { time ≤ anomalistic_half }
     ensures { result ≡ lunar_magnitude (limits time) }

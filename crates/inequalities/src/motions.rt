@@ -11,6 +11,7 @@ use measure::ANOMALISTIC_HALF;
 use rows::Refusal;
 
 // The motion in a whole limit of a half. A limit past the last is refused with 2.
+#[tactic(auto, using(crate::proofs::MotionAt::quick_row, crate::proofs::MotionAt::tardy_row), unfolding(crate::specs::Motion::motion_at_reply))]
 pub fn motion_at(half: LunarHalf, limit: u64) -> Result<u64, Refusal>
     ensures { answer_said result ≡ motion_at_reply (lunar_half_said half) limit }
 {
@@ -24,6 +25,7 @@ pub fn motion_at(half: LunarHalf, limit: u64) -> Result<u64, Refusal>
 }
 
 // The motion at an anomaly, by its rule: a constant table is laid out anew wherever it is read.
+#[tactic(auto, using(crate::proofs::Sizes::whole_law_le, crate::proofs::MotionAt::quick_rises, crate::proofs::MotionAt::tardy_rises, crate::proofs::MotionAt::motion_quick, crate::proofs::MotionAt::motion_tardy), unfolding(crate::specs::Motion::motion_at))]
 pub fn motion(anomaly: u64) -> u64
     requires { anomaly < anomalistic_month }
     ensures { result ≡ motion anomaly }

@@ -58,6 +58,7 @@ const FAST_LIMIT: u64 = 8_890_922_500;
 const SLOW_LIMIT: u64 = HALF_YEAR - FAST_LIMIT;
 
 // The magnitude at a time in the fast half: by law A as far as the limit, then by law B from the end.
+#[tactic(auto, unfolding(crate::specs::Solar::fast_at))]
 fn fast(time: u64) -> u64
     requires { time ≤ half_year }
     ensures { result ≡ fast_at time }
@@ -70,6 +71,7 @@ fn fast(time: u64) -> u64
 }
 
 // And in the slow half. One function of both would take two laws and a limit; these are `fast_at` and `slow_at` as they stand.
+#[tactic(auto, unfolding(crate::specs::Solar::slow_at))]
 fn slow(time: u64) -> u64
     requires { time ≤ half_year }
     ensures { result ≡ slow_at time }

@@ -77,6 +77,7 @@ pub fn name_of(day: u64) -> Name
 
 // The whole part of a × t / day, where the product itself may have more than 64 bits. For the crates above: no question of the
 // calendar's, and each caller shows that its numbers are in range.
+#[tactic(auto, using(crate::proofs::Product::split))]
 pub fn over_day(a: u64, t: u64) -> u64
     requires { (a ≤ 1_800 * day) × (t < day * day) }
     ensures { result ≡ a * t / day }

@@ -22,6 +22,7 @@ const LAST_QUARTER: u64 = 3;
 // Each question below is about quarter q of lunation l, and refused with 2 where one of them is past its last.
 
 // The mean moon's running time.
+#[tactic(auto, unfolding(crate::specs::Lunation::mean_reply))]
 pub fn mean(l: u64, q: u64) -> Result<u64, Refusal>
     ensures { answer_said result ≡ mean_reply shoushi l q }
 {
@@ -29,6 +30,7 @@ pub fn mean(l: u64, q: u64) -> Result<u64, Refusal>
 }
 
 // The solar inequality.
+#[tactic(auto, using(rows::proofs::Refused::handed_on, signed::proofs::Integers::held_as, crate::proofs::Times::solar_time_lt, crate::proofs::Admitted::asked_as), unfolding(crate::specs::TrueMoon::solar_reply))]
 pub fn solar(l: u64, q: u64) -> Result<i64, Refusal>
     ensures { answer_said result ≡ as_integer (solar_reply shoushi l q) }
 {
@@ -36,6 +38,7 @@ pub fn solar(l: u64, q: u64) -> Result<i64, Refusal>
 }
 
 // The lunar inequality.
+#[tactic(auto, using(rows::proofs::Refused::handed_on, signed::proofs::Integers::held_as, crate::proofs::Times::anomaly_lt, crate::proofs::Admitted::asked_as), unfolding(crate::specs::TrueMoon::lunar_reply))]
 pub fn lunar(l: u64, q: u64) -> Result<i64, Refusal>
     ensures { answer_said result ≡ as_integer (lunar_reply shoushi l q) }
 {
@@ -43,6 +46,7 @@ pub fn lunar(l: u64, q: u64) -> Result<i64, Refusal>
 }
 
 // The moon's motion.
+#[tactic(auto, using(rows::proofs::Refused::handed_on, crate::proofs::Times::anomaly_lt, crate::proofs::Admitted::asked_as), unfolding(crate::specs::TrueMoon::motion_reply))]
 pub fn motion(l: u64, q: u64) -> Result<u64, Refusal>
     ensures { answer_said result ≡ motion_reply shoushi l q }
 {
@@ -50,6 +54,7 @@ pub fn motion(l: u64, q: u64) -> Result<u64, Refusal>
 }
 
 // The correction.
+#[tactic(auto, unfolding(crate::specs::TrueMoon::correction_reply))]
 pub fn correction(l: u64, q: u64) -> Result<i64, Refusal>
     ensures { answer_said result ≡ as_integer (correction_reply shoushi l q) }
 {
@@ -57,6 +62,7 @@ pub fn correction(l: u64, q: u64) -> Result<i64, Refusal>
 }
 
 // The true moon's running time.
+#[tactic(auto, unfolding(crate::specs::TrueMoon::true_reply))]
 pub fn true_moon(l: u64, q: u64) -> Result<u64, Refusal>
     ensures { answer_said result ≡ true_reply shoushi l q }
 {
@@ -105,6 +111,7 @@ impl Quarter {
     }
 
     // The time in the solar year, which the slow half begins.
+    #[tactic(auto, unfolding(crate::specs::Lunation::solar_time))]
     fn solar_time(self) -> u64
         ensures { result ≡ solar_time shoushi self.l self.q }
     {
@@ -112,6 +119,7 @@ impl Quarter {
     }
 
     // The time in the anomalistic month, which the quick half begins.
+    #[tactic(auto, unfolding(crate::specs::Lunation::anomaly))]
     fn anomaly(self) -> u64
         ensures { result ≡ anomaly shoushi self.l self.q }
     {
