@@ -104,6 +104,7 @@ impl Quarter {
         Ok(Quarter { l, q })
     }
 
+    #[tactic(auto, unfolding(crate::specs::Lunation::mean))]
     fn mean(self) -> u64
         ensures { result ≡ mean shoushi self.l self.q }
     {
@@ -126,6 +127,7 @@ impl Quarter {
         (ANOMALY_START + self.l * ANOMALY_ADVANCE + self.q * QUARTER_STEP) % ANOMALISTIC_MONTH
     }
 
+    #[tactic(auto, using(signed::proofs::Integers::held_as, crate::proofs::Times::solar_time_lt, crate::proofs::Times::anomaly_lt), unfolding(crate::specs::TrueMoon::correction_of))]
     fn correction(self) -> i64
         ensures { result ≡ integer (correction_of shoushi self.l self.q) }
     {
