@@ -1,3 +1,4 @@
+pub mod LineLaws
 pub mod ListTextLaws
 pub mod ReplyLaws
 pub mod Unique

@@ -1,7 +1,8 @@
 -- The line of text that is written for each answer that is no list, and for a refusal, and the room that it asks for.
 -- Assumes nothing.
-use Rattle.std.specs.Prelude.{List, [], ◌∷◌, ◌++◌, ℕ, zero, suc, ℤ, pos, negsuc, length, drop}
+use Rattle.std.specs.Prelude.{List, [], ◌∷◌, ◌++◌, ℕ, zero, suc, ℤ, pos, negsuc, length, drop, ◌≡◌, ◌≤◌}
 use Rattle.rows.specs.Reply.{Reply, answer, refused}
+use Rattle.rows.specs.Row.{over}
 use Rattle.measure.specs.declared.Name.{Name}
 use Rattle.measure.specs.Days.{day_of, remainder_of, sixty_name}
 use Rattle.remainders.specs.ExtraDays.{Found, none, days_on}
@@ -70,3 +71,7 @@ moment_text t = filled (bytes_of "% % % %\n") (t ∷ day_of t ∷ remainder_of t
 -- room for one line
 abbrev pub line_room : ℕ
 line_room = 16_384
+
+-- a text that has room in a line is written from its start
+abbrev pub FillsLine : List ℕ → List ℕ → List ℕ → Type 0
+FillsLine text before after = (length text ≤ line_room) × (after ≡ over text before)
