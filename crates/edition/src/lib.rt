@@ -10,6 +10,7 @@ ghost use Rattle.edition.specs.Edition.{first_day, middle_day};
 use measure::{SOLSTICE_EPOCH, TERM_STEP};
 
 // The first day of month l.
+#[tactic(auto, unfolding(crate::specs::Edition::first_day))]
 pub fn first_day(l: u64) -> u64
     requires { l ≤ last_lunation + 3 }
     ensures { result ≡ first_day shoushi l }
@@ -20,6 +21,7 @@ pub fn first_day(l: u64) -> u64
 pub const MIDDLE_STEP: u64 = 2 * TERM_STEP;
 
 // The day of middle term j, counted on over the years.
+#[tactic(auto, using(crate::proofs::Edition::middle_day_lem))]
 pub fn middle_day(j: u64) -> u64
     requires { j ≤ 12 * last_year + 24 }
     ensures { result ≡ middle_day shoushi j }

@@ -37,6 +37,7 @@ const EARLIEST: u64 = 35;
 const LATEST: u64 = 365_268;
 
 // The lunation that heads year n. A year past the last is refused with 1.
+#[tactic(auto, unfolding(crate::specs::Head::head_reply))]
 pub fn head(n: u64) -> Result<u64, Refusal>
     ensures { answer_said result ≡ head_reply shoushi n }
 {
@@ -97,6 +98,7 @@ fn span_of(d: u64) -> Span
 }
 
 // The last middle term before a day.
+#[tactic(auto, using(edition::proofs::Edition::middle_day_lem))]
 pub fn last_term(next: u64) -> u64
     requires { (middle_day shoushi 0 < next) × (next ≤ latest + 60) }
     ensures { LastBefore (calendar shoushi) next result }
@@ -113,6 +115,7 @@ pub fn head_of(n: u64) -> u64
 }
 
 // The head of year n with its days.
+#[tactic(auto, using(month_law::proofs::Months::head_is, crate::proofs::Reach::solstice_least, crate::proofs::Reach::solstice_most))]
 pub fn head_span(n: u64) -> Span
     requires { n ≤ suc last_year }
     ensures { result ≡ span_of (calendar shoushi) (head (calendar shoushi) n) }
@@ -122,6 +125,7 @@ pub fn head_span(n: u64) -> Span
 
 // A month by the day on which it begins and the last middle term before its end: it has that term's number, and is leap where that
 // term lies before it.
+#[tactic(auto, using(month_law::proofs::Numbers::rank_number))]
 pub fn kind_by(first: u64, last: u64) -> Kind
     requires { last ≤ 12 * last_year + 24 }
     ensures { kind_said result ≡ kind_by (calendar shoushi) first last }
