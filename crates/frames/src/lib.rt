@@ -112,7 +112,8 @@ fn digit_byte(v: u64) -> u8
     if v < 10 { b'0' + v } else { b'A' + (v - 10) }
 }
 
-// The number that digits spell, few enough for 64 bits. A byte that is no digit is refused with 5.
+// The number that digits spell, few enough for 64 bits. A byte that is no digit is refused with 5. The library's digits and numbers of base 16
+// may be in small letters too, or signed, and are written in small ones.
 fn number_spelled(digits: &[u8]) -> Result<u64, Refusal>
     requires { length digits.now ≤ 15 }
     ensures { answer_said result ≡ number_spelled digits.now }

@@ -53,6 +53,7 @@ pub fn year_records(n: u64, row: &mut [MonthRecord]) -> Result<u64, Refusal>
 // The records of so many years from n on, each list from where the one before it ended, so that they are those of the months from the
 // first head on; how many there are. No years, a first year past the last or a run past it are refused with 1, then a row that is too
 // short with 4.
+// A month at a time: `lists::run` writes a year at a time, as a sheet asks it too, so neither is the other with its type changed.
 pub fn run_records(n: u64, count: u64, row: &mut [MonthRecord]) -> Result<u64, Refusal>
     ensures { (answer_said result ≡ run_reply shoushi n count (length row.old))
         × (row.new ≡ row_after (run_reply shoushi n count (length row.old)) (in_records (run_of (calendar shoushi) n count)) row.old) }

@@ -80,6 +80,7 @@ pub fn lengadriu_year(row: &mut [u8], n: u64) -> Count
 
 const RECORD_BYTES: usize = RECORD_WIDTH * NUMBER_BYTES;
 
+// Its numbers are shown to fit, which a `From` cannot ask.
 fn month_told(m: Month) -> Day
     requires { FitsDay (month_said m) }
     ensures { result ≡ day_told (answer (month_said m)) }

@@ -2,7 +2,7 @@
 ghost use Rattle.std.specs.Prelude.{◌≡◌};
 ghost use Rattle.words.specs.Number.{digit_of, number_of};
 
-// The number that s writes: 1 to 20 digits, and below 2 ^ 64.
+// The number that s writes: 1 to 20 digits, and below 2 ^ 64. The library's `parse` takes a sign and any count of digits too.
 #[tactic(auto, using(crate::proofs::Digits::digits_more, crate::proofs::Digits::value_more, crate::proofs::Digits::empty, crate::proofs::Digits::long, crate::proofs::Digits::no_digit, crate::proofs::Digits::large, crate::proofs::Digits::whole))]
 pub fn number_in(s: &[u8]) -> Option<u64>
     ensures { result ≡ number_of s.now }
