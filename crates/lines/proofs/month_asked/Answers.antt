@@ -1,5 +1,5 @@
 -- `lines::month_asked` meets its contract. Assumes nothing.
-use mathlib.Core.Path.{◌≡◌, ◌∙◌, sym, ap}
+use mathlib.Core.Path.{◌∙◌, sym, ap}
 use Rattle.rows.specs.Reply.{answer_said}
 use Rattle.rows.proofs.Refused.{handed_on}
 use Rattle.measure.specs.Epoch.{shoushi}

@@ -1,15 +1,14 @@
 -- `lines::put_reply_line` meets its contract. Assumes nothing.
-use mathlib.Core.Path.{◌≡◌, ◌∙◌, sym, ap, subst}
+use mathlib.Core.Path.{◌∙◌, sym, ap, subst}
 use native.Mathlib.Omega.{arith}
 use lib.ListN.{length}
-use Rattle.rows.specs.Reply.{refused, number_of}
+use Rattle.rows.specs.Reply.{number_of}
 use Rattle.measure.specs.Epoch.{shoushi}
 use Rattle.months.specs.Month.{month_said, month_answer_said}
 use Rattle.frames.specs.DayLine.{day_digits}
 use Rattle.frames.specs.MonthLine.{line_of}
 use Rattle.frames.proofs.MonthLineLaws.{month_line_length, refusal_line_length}
 use Rattle.frames.proofs.FitLaws.{LineFits}
-use Rattle.lines.specs.Line.{line_reply}
 use Rattle.lines.proofs.LineLaws.{line_fits, written_as}
 use Rattle.lines.proofs.put_reply_line.Goals as goal
 
