@@ -18,7 +18,8 @@ pub struct Block {
     pub kept: usize,
 }
 
-// Answers the lines that end in the first `have` bytes, from the row's start, and puts what is kept at the buffer's start.
+// Answers the lines that end in the first `have` bytes, from the row's start, and puts what is kept at the buffer's start. `have` stands
+// beside the buffer, since the contract of this public function says what becomes of the rest of it.
 pub fn answer_block(buf: &mut [u8], have: usize, out: &mut [u8]) -> Block
     requires { (have ≤ length buf.old) × (reply_room * length buf.old ≤ length out.old) }
     ensures value { result ≡ block_of (take have buf.old) }
@@ -47,7 +48,8 @@ pub fn answer_whole_lines(input: &[u8], out: &mut [u8]) -> usize
 // The place after the last line end.
 #[tactic(auto, using(crate::proofs::Kept::none_whole, crate::proofs::Kept::whole_to))]
 fn whole_lines(block: &[u8]) -> usize
-    ensures { result ≡ whole_length block.now }
+    ensures value { result ≡ whole_length block.now }
+    ensures within { result ≤ length block.now }
 {
     match last_line_end(block) {
         Some(at) => at + 1,

@@ -24,7 +24,7 @@ enum Read {
 // Room for the replies to a full buffer.
 const ROOM: usize = REPLY_ROOM * BLOCK;
 
-// Reads once, after the kept bytes, which stay.
+// Reads once, after the kept bytes, which stay. This and the answer take the fields of `Begun`, which fit together again when the turn ends.
 fn read_more(input: &mut impl ReadBytes, buf: &mut [u8], kept: usize) -> Result<usize, ReadFailed>
     requires { kept ≤ length buf.old }
     ensures within { Within result (length buf.old - kept) }
@@ -44,6 +44,7 @@ fn write_out(rt: &(impl Print + Eprint), out: &[u8]) -> bool {
 }
 
 // The first `have` bytes answered, of which so many were kept. Where no more were read, they are the last line.
+#[tactic(auto, unfolding(crate::specs::Input::read_of, crate::specs::Input::written_for, crate::specs::Input::kept_for))]
 fn answer_read(buf: &mut [u8], kept: usize, have: usize, out: &mut [u8]) -> Read
     requires { (kept ≤ have) × (have ≤ length buf.old) × (reply_room * length buf.old ≤ length out.old) }
     ensures value { result ≡ read_of kept (take have buf.old) }
