@@ -35,11 +35,6 @@ alike a b e = rw e (same_itself b)
 pub unlike : (a b : List ℕ) → (a ≡ b → ⊥) → same a b ≡ false
 unlike a b h = not_true (same a b) (λ e. absurd (h (same_equal a b e)))
 
--- what a function answers that is true just where a and b are equal
-pub same_answer : (a b : List ℕ) (r : Bool) → (r ≡ true → a ≡ b) × (a ≡ b → r ≡ true) → same a b ≡ r
-same_answer a b true h = rw (h.0 refl) (same_itself b)
-same_answer a b false h = not_true (same a b) (λ e. h.1 (same_equal a b e))
-
 -- a test of two slices goes byte by byte, as `same` does
 pub same_bytes : (a b : List ℕ) → same a b ≡ bytes_eq a b
 unfolding same
