@@ -1,6 +1,7 @@
 -- `crate::fits_list` meets its contract: all slots passed have what is wanted. Assumes nothing.
-use Rattle.std.proofs.Common.{arith, ◌≡◌, ◌∙◌, refl, sym, get_or, true, add-one}
+use Rattle.std.proofs.Common.{arith, ◌≡◌, ◌∙◌, refl, sym, get_or, true, length, ◌/◌, add-one}
 use Rattle.rows.proofs.Choice.{both_pass}
+use Rattle.lists.specs.Records.{record_width}
 use Rattle.sheets.specs.declared.Wanted.TheVariants.{Nothing}
 use Rattle.sheets.specs.Sheet.{slots, has, all_below, value_in}
 use Rattle.sheets.proofs.Slots.{all_more, all_fails, had_none, had, had_not, had_clash}
@@ -24,7 +25,7 @@ pub loop-slot-preserved : goal.loop-slot-preserved
 loop-slot-preserved c =
     let a = c.args in
     let s = c.loop-slot.slot in
-    let here : has (get_or a.wanted.now s Nothing) (value_in a.list.now a.months s) ≡ true =
+    let here : has (get_or a.wanted.now s Nothing) (value_in a.list.now (length a.list.now / record_width) s) ≡ true =
     elim c.match-want.branch [
       | in-Nothing w ↦ had_none _ _ w.in-Nothing.is
       | in-Value+else-value_in-value w ↦ had _ _ _ w.in-Value.is (sym w.value_in.ensures ∙ w.if-value_in-value.false)
