@@ -108,6 +108,7 @@ enum Turn {
 }
 
 // The text of the reply to a line, from the buffer's start; how many bytes it has.
+#[tactic(auto, using(ask::proofs::AnswerLaws::answered_whole, rows::proofs::Row::over_least))]
 fn answered(line: &[u8], buf: &mut [u8; YEARS_ROOM]) -> usize
     ensures within { result ≤ length buf.old }
     ensures value { result ≡ length (answer_text shoushi line.now) }

@@ -6,7 +6,6 @@ ghost use Rattle.lines.specs.Line.{output, reply_room};
 ghost use Rattle.lines.specs.Block.{whole_length, NoEnd, LastEnd, kept_of, written, block_of};
 
 use frames::LINE_END;
-use rows::Refusal;
 
 // A line of six bytes is refused, whatever follows.
 const ENOUGH: usize = 6;
@@ -39,10 +38,7 @@ pub fn answer_whole_lines(input: &[u8], out: &mut [u8]) -> usize
     ensures value { result ≡ length (output shoushi input.now) }
     ensures writes { out.new ≡ over (output shoushi input.now) out.old }
 {
-    let Ok(n) = crate::replies(input, out) else {
-        return 0;
-    };
-    n as usize
+    crate::write_replies(input, out)
 }
 
 // The place after the last line end.

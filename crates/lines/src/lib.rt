@@ -18,6 +18,7 @@ pub const REPLY_ROOM: usize = 3;
 
 // The replies to all lines of the input, from the row's start; how many bytes they have. A row with less than three bytes for each
 // byte of the input is refused with 4.
+#[tactic(auto, unfolding(crate::specs::Line::output_reply))]
 pub fn replies(input: &[u8], out: &mut [u8]) -> Result<u64, Refusal>
     ensures value { answer_said result ≡ output_reply shoushi input.now (length out.old) }
     ensures writes { out.new ≡ row_after (output_reply shoushi input.now (length out.old)) (output shoushi input.now) out.old }
