@@ -29,7 +29,8 @@ pub fn replies(input: &[u8], out: &mut [u8]) -> Result<u64, Refusal>
     Ok(write_replies(input, out) as u64)
 }
 
-// A turn for each line: the line is answered, and the rest handed on.
+// A turn for each line: the line is answered, and the rest handed on. The library's `split` would give one more, an empty line after the last
+// line end.
 fn write_replies(input: &[u8], out: &mut [u8]) -> usize
     requires { reply_room * length input.now ≤ length out.old }
     ensures value { result ≡ length (output shoushi input.now) }
