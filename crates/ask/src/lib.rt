@@ -3,7 +3,7 @@
 #![tactic(auto)]
 
 ghost use Rattle.std.specs.Prelude.{List, ◌≡◌, ◌≤◌, ℕ, length};
-ghost use Rattle.rows.specs.Reply.{number_of};
+ghost use Rattle.rows.specs.Reply.{number_of, answer_said};
 ghost use Rattle.rows.specs.Row.{row_after};
 ghost use Rattle.measure.specs.Epoch.{shoushi};
 ghost use Rattle.words.specs.Line.{word_of};
@@ -32,12 +32,26 @@ const YEARS: usize = LAST_YEAR as usize + 1;
 const MOST_NUMBERS: usize = YEARS * YEAR_NUMBERS;
 
 // How many bytes of text were written, with refused 0. Where the row has too little room refused is 4, and no byte was written.
-// It is no Result, since C reads it: ask.h.
+// C reads it (ask.h), so that it is no Result.
 #[repr(C)]
 #[derive(Clone, Copy)]
 pub struct Written {
     pub refused: u64,
     pub bytes: u64,
+}
+
+impl From<Result<u64, Refusal>> for Written {
+    ghost from_gives = { λ a told. told ≡ written_told (answer_said a) };
+
+    fn from(a: Result<u64, Refusal>) -> Written {
+        match a {
+            Ok(bytes) => Written { refused: 0, bytes },
+            Err(r) => Written {
+                refused: r as u64,
+                bytes: 0,
+            },
+        }
+    }
 }
 
 // The text that the desk replies to a line, with its line end, from the row's start; a question that it refuses has a text too. A row without
@@ -48,16 +62,16 @@ pub fn lengadriu_ask(line: &[u8], row: &mut [u8]) -> Written
     ensures writes { row.new ≡ row_after (answer_reply shoushi line.now (length row.old)) (answer_text shoushi line.now) row.old }
 {
     if asks_years(line) {
-        reply_within::<MOST_NUMBERS>(line, row)
+        Written::from(reply_within::<MOST_NUMBERS>(line, row))
     } else {
-        reply_within::<YEARS>(line, row)
+        Written::from(reply_within::<YEARS>(line, row))
     }
 }
 
-// The same, where a list has room for so many numbers.
-fn reply_within<const N: usize>(line: &[u8], row: &mut [u8]) -> Written
+// How many bytes the text has, where a list has room for so many numbers.
+fn reply_within<const N: usize>(line: &[u8], row: &mut [u8]) -> Result<u64, Refusal>
     requires { N ≤ most_numbers }
-    ensures value { result ≡ written_told (reply_reply (reply_to shoushi N line.now) (length row.old)) }
+    ensures value { answer_said result ≡ reply_reply (reply_to shoushi N line.now) (length row.old) }
     ensures writes { row.new ≡ row_after (reply_reply (reply_to shoushi N line.now) (length row.old)) (reply_text (reply_to shoushi N line.now)) row.old }
 {
     let mut numbers = [0; N];
@@ -75,22 +89,16 @@ fn asks_years(line: &[u8]) -> bool
 
 // An answer's line, where the row has the room that it asks for.
 #[tactic(auto, unfolding(crate::specs::AnswerText::reply_reply))]
-fn write_reply(r: DeskAnswer<Refusal>, numbers: &[u64], row: &mut [u8]) -> Written
+fn write_reply(r: DeskAnswer<Refusal>, numbers: &[u64], row: &mut [u8]) -> Result<u64, Refusal>
     requires { Lies number_of r (length numbers.now) }
-    ensures value { result ≡ written_told (reply_reply (desk_said number_of r numbers.now) (length row.old)) }
+    ensures value { answer_said result ≡ reply_reply (desk_said number_of r numbers.now) (length row.old) }
     ensures writes { row.new ≡ row_after (reply_reply (desk_said number_of r numbers.now) (length row.old)) (reply_text (desk_said number_of r numbers.now)) row.old }
 {
     if row.len() < room_for(r) {
-        return Written {
-            refused: Refusal::ShortRow as u64,
-            bytes: 0,
-        };
+        return Err(Refusal::ShortRow);
     }
     let n = replies::put_reply(r, numbers, row);
-    Written {
-        refused: 0,
-        bytes: n as u64,
-    }
+    Ok(n as u64)
 }
 
 // The room that an answer's line asks for, whatever its numbers are.
