@@ -29,8 +29,7 @@ pub(crate) fn whole(time: u64) -> u64
     requires { time ≤ anomalistic_half }
     ensures { result ≡ whole_limit time }
 {
-    let k = in_time(time) / DAY;
-    if k < END { k } else { END - 1 }
+    (in_time(time) / DAY).min(END - 1)
 }
 
 // What is past the middle counts from the end, and past the end there is nothing.

@@ -5,7 +5,7 @@ mod counted;
 mod halves;
 mod marks;
 
-ghost use Rattle.std.specs.Prelude.{◌≡◌, length};
+ghost use Rattle.std.specs.Prelude.{length};
 ghost use Rattle.words.specs.Numbers.{numbers_of};
 ghost use Rattle.measure.specs.Epoch.{shoushi};
 ghost use Rattle.questions.specs.DeskReply.{Answers};

@@ -1,10 +1,10 @@
 // Texts with holes: each % of a template stands for the next number, in decimal.
 #![tactic(auto)]
 
-ghost use Rattle.std.specs.Prelude.{◌≡◌, ◌≤◌, length, get_or};
+ghost use Rattle.std.specs.Prelude.{◌≡◌, ◌≤◌, length};
 ghost use Rattle.rows.specs.Reply.{answer_said};
 ghost use Rattle.rows.specs.Row.{over, row_after};
-ghost use Rattle.texts.specs.Text.{decimal, piece, numbers_taken, filled, most_digits, text_room, text_reply};
+ghost use Rattle.texts.specs.Text.{decimal, filled, most_digits, text_room, text_reply};
 
 use itoa::Buffer;
 use rows::Refusal;
