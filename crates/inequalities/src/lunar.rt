@@ -36,7 +36,7 @@ pub fn lunar(anomaly: u64) -> i64
     }
 }
 
-// Its magnitude with the sign of the half.
+// Its magnitude with the sign of the half. A time in a half is a number: a type of its own would be made anew at each call.
 #[tactic(auto, using(signed::proofs::Integers::held_as, crate::proofs::Sizes::magnitude_le))]
 fn in_half(half: LunarHalf, time: u64) -> i64
     requires { time ≤ anomalistic_half }

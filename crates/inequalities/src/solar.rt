@@ -41,7 +41,7 @@ pub fn solar(time: u64) -> i64
     }
 }
 
-// Its magnitude with the sign of the half.
+// Its magnitude with the sign of the half. A time in a half is a number: a type of its own would be made anew at each call.
 #[tactic(auto, using(signed::proofs::Integers::held_as, crate::proofs::Sizes::fast_le, crate::proofs::Sizes::slow_le))]
 fn in_half(half: SolarHalf, time: u64) -> i64
     requires { time ≤ half_year }

@@ -25,7 +25,7 @@ pub const YEAR_ROOM: u64 = 13;
 pub const YEAR_NUMBERS: usize = YEAR_ROOM as usize * RECORD_WIDTH;
 
 // The records of year n, from the row's start; how many there are. A year past the last is refused with 1, then a row that is too short
-// with 4.
+// with 4. This contract is of numbers, four to a month; `records` has structs.
 #[tactic(auto, using(crate::proofs::Asked::reply_of_one, crate::proofs::Asked::run_of_one))]
 pub fn list(n: u64, row: &mut [u64]) -> Result<u64, Refusal>
     ensures value { answer_said result ≡ list_reply shoushi n (length row.old / record_width) }

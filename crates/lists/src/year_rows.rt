@@ -25,7 +25,7 @@ pub const NUMBER: usize = 2;
 pub const MARK: usize = 3;
 
 // The list of year n, from its head on: a month is of it where the one after begins no later than the next solstice. The first that is
-// not is the next head, which is handed back.
+// not is the next head, which is handed back. The year is a plain number and the row a slice, as this contract is public.
 pub fn write_year(n: u64, start: Span, row: &mut [u64]) -> Span
     requires { (n ≤ last_year) × (start ≡ span_of (calendar shoushi) (head (calendar shoushi) n)) × (year_room ≤ length row.old / record_width) }
     ensures value { result ≡ span_of (calendar shoushi) (head (calendar shoushi) (suc n)) }

@@ -106,7 +106,7 @@ pub fn last_term(next: u64) -> u64
     (next * DAY - 1 - SOLSTICE_EPOCH) / MIDDLE_STEP
 }
 
-// The lunation that heads year n.
+// The lunation that heads year n, a plain number, as this contract is public.
 pub fn head_of(n: u64) -> u64
     requires { n ≤ suc last_year }
     ensures { result ≡ head (calendar shoushi) n }
@@ -114,7 +114,7 @@ pub fn head_of(n: u64) -> u64
     head_span(n).lunation
 }
 
-// The head of year n with its days.
+// The head of year n with its days. The year is a plain number here too.
 #[tactic(auto, using(month_law::proofs::Months::head_is, crate::proofs::Reach::solstice_least, crate::proofs::Reach::solstice_most))]
 pub fn head_span(n: u64) -> Span
     requires { n ≤ suc last_year }

@@ -14,7 +14,8 @@ pub const BLOCK: usize = 65_536;
 #[derive(Debug, Clone, Copy, PartialEq, Eq)]
 pub struct ReadFailed;
 
-// What the number says that a read into the row answered: so many bytes, 0 where the input has ended.
+// What the number says that a read into the row answered: so many bytes, 0 where the input has ended. A negative one says that it failed: that is
+// this function's promise. Both programs read by `read_once`.
 pub fn given(answered: isize, row: &[u8]) -> Result<usize, ReadFailed>
     ensures value { got_said result ≡ given answered (length row.now) }
     ensures within { Within result (length row.now) }

@@ -17,6 +17,7 @@ use lists::year_rows::RECORD_WIDTH;
 use months::{Span, head_of};
 use rows::Refusal;
 
+// A month's record as a struct. The leap mark is 1 or 0: these are the four numbers of `record_at`.
 #[derive(Clone, Copy)]
 pub struct MonthRecord {
     pub first: u64,

@@ -35,6 +35,7 @@ pub(crate) fn put(template: &[u8], numbers: &[u64], line: &mut Line) -> usize
     fill(template, numbers, line)
 }
 
+// k is a number, since whoever tells of a refusal has one (`Numbered`).
 pub(crate) fn put_refusal(k: u64, line: &mut Line) -> usize
     ensures value { result ≡ length (refusal_text k) }
     ensures writes { FillsLine (refusal_text k) line.old line.new }

@@ -68,7 +68,7 @@ pub fn earth(n: u64, i: u64) -> Result<u64, Refusal>
     }
 }
 
-// The running time of term i of year n, for callers that know both to be admitted.
+// The running time of term i of year n, for callers that know both to be admitted: plain numbers, as this contract is public.
 #[tactic(auto, unfolding(crate::specs::Terms::term, crate::specs::Solstice::solstice))]
 pub fn term_time(n: u64, i: u64) -> u64
     requires { (n ≤ last_year + 1) × (i < terms) }

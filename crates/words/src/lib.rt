@@ -11,7 +11,7 @@ ghost use Rattle.words.specs.Place.{place_of};
 
 use crate::decimals::number_in;
 
-// Up to three numbers.
+// Up to three numbers: how many, with each of them.
 #[derive(Clone, Copy)]
 pub enum Numbers {
     Nothing,
