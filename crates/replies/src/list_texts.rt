@@ -7,7 +7,8 @@ ghost use Rattle.replies.specs.ListText.{items_text, ItemsTake};
 
 use texts::fill;
 
-// So many items of a template that takes `width` numbers, and the line end; of none it is said that there are none.
+// So many items of a template that takes `width` numbers, and the line end; of none it is said that there are none. The numbers are lent whole, and
+// counted: a slice of them would have to be shown to hold whole items.
 #[tactic(auto, using(crate::proofs::ListTextLaws::no_items), unfolding(texts::specs::Text::filled, texts::specs::Text::piece, texts::specs::Text::numbers_taken))]
 pub(crate) fn put_items(
     item: &[u8],
