@@ -34,10 +34,6 @@ pub bad_line_lem : (e : Epoch) (line : List ℕ) (k : ℕ) → day_asked day_dig
 unfolding line_reply
 bad_line_lem e line k h = rw h (ap refused (only_bad day_digits line k h))
 
-pub refused_reply : (e : Epoch) (line : List ℕ) (k : ℕ) → day_asked day_digits line ≡ refused k → line_reply e line ≡ refused k
-unfolding line_reply
-refused_reply e line k h = rw h
-
 -- and a day outside the calendar
 pub asked_reply : (e : Epoch) (line : List ℕ) (d : ℕ) → day_asked day_digits line ≡ answer d → line_reply e line ≡ day_reply e d
 unfolding line_reply

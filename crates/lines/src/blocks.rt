@@ -5,7 +5,8 @@ ghost use Rattle.measure.specs.Epoch.{shoushi};
 ghost use Rattle.lines.specs.Line.{output, reply_room};
 ghost use Rattle.lines.specs.Block.{whole_length, NoEnd, LastEnd, kept_of, written, block_of};
 
-use frames::LINE_END;
+use crate::put_reply_line;
+use frames::{LINE_END, line_len, rest};
 
 // A line of six bytes is refused, whatever follows.
 const ENOUGH: usize = 6;
@@ -38,7 +39,15 @@ pub fn answer_whole_lines(input: &[u8], out: &mut [u8]) -> usize
     ensures value { result ≡ length (output shoushi input.now) }
     ensures writes { out.new ≡ over (output shoushi input.now) out.old }
 {
-    crate::write_replies(input, out)
+    let mut left = input;
+    let mut used: usize = 0;
+    // The paper hands the rest of the input on as it stands, a line at a time.
+    while !left.is_empty() {
+        let n = line_len(left);
+        used += put_reply_line(&left[..n], &mut out[used..]);
+        left = rest(left, n);
+    }
+    used
 }
 
 // The place after the last line end.

@@ -3,14 +3,14 @@
 
 pub mod blocks;
 
-ghost use Rattle.std.specs.Prelude.{◌≡◌, ◌*◌, ◌≤◌, length};
+ghost use Rattle.std.specs.Prelude.{◌≡◌, ◌≤◌, length};
 ghost use Rattle.rows.specs.Reply.{answer_said};
 ghost use Rattle.rows.specs.Row.{over, row_after};
 ghost use Rattle.measure.specs.Epoch.{shoushi};
 ghost use Rattle.months.specs.Month.{month_answer_said};
-ghost use Rattle.lines.specs.Line.{line_reply, reply_line, output, reply_room, output_reply};
+ghost use Rattle.lines.specs.Line.{line_reply, reply_line, output, output_reply};
 
-use frames::{DAY_DIGITS, day_asked, line_len, put_month_line, put_refusal_line, rest};
+use frames::{DAY_DIGITS, day_asked, put_month_line, put_refusal_line};
 use months::Month;
 use rows::{Numbered, Refusal};
 
@@ -26,27 +26,11 @@ pub fn replies(input: &[u8], out: &mut [u8]) -> Result<u64, Refusal>
     if out.len() / REPLY_ROOM < input.len() {
         return Err(Refusal::ShortRow);
     }
-    Ok(write_replies(input, out) as u64)
-}
-
-// A turn for each line: the line is answered, and the rest handed on. The library's `split` would give one more, an empty line after the last
-// line end.
-fn write_replies(input: &[u8], out: &mut [u8]) -> usize
-    requires { reply_room * length input.now ≤ length out.old }
-    ensures value { result ≡ length (output shoushi input.now) }
-    ensures writes { out.new ≡ over (output shoushi input.now) out.old }
-{
-    let mut left = input;
-    let mut used: usize = 0;
-    while !left.is_empty() {
-        let n = line_len(left);
-        used += put_reply_line(&left[..n], &mut out[used..]);
-        left = rest(left, n);
-    }
-    used
+    Ok(blocks::answer_whole_lines(input, out) as u64)
 }
 
 // The month that a line asks for. A malformed line is refused with 5, before a day outside the calendar with 3.
+#[tactic(auto, using(frames::proofs::DayLineLaws::only_bad, crate::proofs::LineLaws::bad_line_lem, crate::proofs::LineLaws::asked_reply))]
 fn month_asked(line: &[u8]) -> Result<Month, Refusal>
     ensures { month_answer_said result ≡ line_reply shoushi line.now }
 {

@@ -1,4 +1,4 @@
--- `lines::write_replies` meets its contract. Assumes nothing.
+-- `lines::blocks::answer_whole_lines` meets its contract. Assumes nothing.
 use mathlib.Core.Path.{◌≡◌}
 use mathlib.Core.List.{◌++◌}
 use Prim.Native.Nat.{◌+◌, ◌*◌, ◌≤◌}
@@ -6,7 +6,7 @@ use lib.ListN.{length, take}
 use Rattle.rows.specs.Row.{over}
 use Rattle.measure.specs.Epoch.{shoushi}
 use Rattle.lines.specs.Line.{output, reply_room}
-use Rattle.lines.proofs.write_replies.Given as goal
+use Rattle.lines.proofs.blocks.answer_whole_lines.Given as goal
 
 abbrev pub invariant-loop-left : goal.invariant-loop-left
 invariant-loop-left l =

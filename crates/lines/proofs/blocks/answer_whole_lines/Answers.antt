@@ -1,4 +1,4 @@
--- `lines::write_replies` meets its contract. Assumes nothing.
+-- `lines::blocks::answer_whole_lines` meets its contract. Assumes nothing.
 use mathlib.Core.Bool.{Bool, true, false}
 use mathlib.Core.Path.{◌≡◌, ◌∙◌, refl, sym, ap}
 use mathlib.Core.List.{List, ◌++◌, append-nil}
@@ -14,7 +14,7 @@ use Rattle.measure.specs.Epoch.{shoushi}
 use Rattle.frames.proofs.LineEndLaws.{length_most, rest_length}
 use Rattle.lines.specs.Line.{output}
 use Rattle.lines.proofs.LineLaws.{room_left, no_line, turn}
-use Rattle.lines.proofs.write_replies.Goals as goal
+use Rattle.lines.proofs.blocks.answer_whole_lines.Goals as goal
 
 -- bytes are left, or none
 some_left : (left : List ℕ) (none : Bool) → none ≡ (length left =? 0) → none ≡ false → 0 < length left
