@@ -5,27 +5,45 @@ use Prim.Native.Nat.{ℕ, ◌+◌, ◌≤◌, ◌<◌}
 use native.Mathlib.Numerals.{add-one}
 use native.Mathlib.Omega.{arith}
 use borrow.Author.Tests.{eq-eqb, ne_eqb}
-use lib.ListN.{length, take, get_or, set, length-append}
-use lib.Seq.{take-suc, take-suc-set, take_all, take_at, length-take-le}
+use lib.ListN.{length, take, drop, get_or, set, length-append, take-append-drop}
+use lib.Seq.{take-suc, take_all, take_at, length-take-le}
 use Rattle.frames.specs.LineEnds.{line_end}
+use Rattle.rows.specs.Row.{over}
+use Rattle.rows.proofs.Row.{put, written}
 use Rattle.measure.specs.Epoch.{shoushi}
 use Rattle.ask.specs.AnswerText.{answer_text}
 use Rattle.desk.specs.Input.{with_more, with_byte, kept_after, last_text}
 
--- one byte more, as far as there is room
-module _ (row line : List ℕ) (k b room : ℕ) (is : take k row ≡ line) (long : length row ≡ room) where
-  pub with_room : k < room → take (k + 1) (set row k b) ≡ with_more room line b
-  with_room h =
-      let fits : k < length row = omega arith in
-      let more : take (k + 1) (set row k b) ≡ line ++ (b ∷ []) =
-      ap (λ (n : ℕ). take n (set row k b)) (add-one k) ∙ take-suc-set row k b fits ∙ ap (λ (l : List ℕ). l ++ (b ∷ [])) is in
-      let count : length line ≡ k = sym (ap length is) ∙ length-take-le k row (omega arith) in
-      more ∙ sym (take_all room (line ++ (b ∷ [])) (omega (arith, length-append line (b ∷ []), count)))
+-- the first bytes of a row, written over it, leave it as it was
+pub over_itself : (k : ℕ) (row : List ℕ) → k ≤ length row → row ≡ over (take k row) row
+unfolding over
+over_itself k row fits = sym (ap (λ (j : ℕ). take k row ++ drop j row) (length-take-le k row fits) ∙ take-append-drop k row)
 
-  pub full : k ≤ room → room ≤ k → line ≡ with_more room line b
-  full most g =
-      let count : length line ≡ room = sym (ap length is) ∙ length-take-le k row (omega arith) ∙ omega arith in
-      sym (take_at line (b ∷ []) room count)
+-- one byte more, as far as there is room
+module _ (line : List ℕ) (k b : ℕ) (fits : k ≤ length line) where
+  begun : length (take k line) ≡ k
+  begun = length-take-le k line fits
+
+  long : length (take k line ++ (b ∷ [])) ≡ k + 1
+  long = omega (arith, begun, length-append (take k line) (b ∷ []))
+
+  pub with_room : k < length line → set line k b ≡ over (with_more (length line) (take k line) b) line
+  with_room h =
+      let all : take k line ++ (b ∷ []) ≡ with_more (length line) (take k line) b =
+      sym (take_all (length line) (take k line ++ (b ∷ [])) (omega (arith, long))) in
+      put (take k line) line line b k (over_itself k line fits) begun h ∙ ap (λ (l : List ℕ). over l line) all
+
+  pub full : length line ≤ k → line ≡ over (with_more (length line) (take k line) b) line
+  full g =
+      let all : take k line ≡ with_more (length line) (take k line) b =
+      sym (take_at (take k line) (b ∷ []) (length line) (omega (arith, begun))) in
+      over_itself k line fits ∙ ap (λ (l : List ℕ). over l line) all
+
+-- what is kept of a line whose row was written over
+pub line_of_row : (more : ℕ → List ℕ → List ℕ) (row line now : List ℕ) (k n room : ℕ) → length row ≡ room → take k row ≡ line
+    → n ≡ length (more (length row) (take k row)) → now ≡ over (more (length row) (take k row)) row → take n now ≡ more room line
+line_of_row more row line now k n room long is count over_row =
+    written (more (length row) (take k row)) row now n (sym count) over_row ∙ ap (λ (r : ℕ). more r (take k row)) long ∙ ap (more room) is
 
 kept_snoc : (room : ℕ) (line bs : List ℕ) (b : ℕ) → kept_after room line (bs ++ (b ∷ [])) ≡ with_byte room (kept_after room line bs) b
 unfolding kept_after

@@ -2,7 +2,7 @@
 -- through and what the arguments are; a turn and the arguments' line are determined but for that.
 -- Assumes nothing.
 use mathlib.Core.List.{List}
-use mathlib.Core.Path.{◌≡◌, ◌∙◌, refl, sym}
+use mathlib.Core.Path.{◌≡◌, ◌∙◌, sym}
 use Rattle.std.specs.Prelude.{Option, Some, None}
 use Prim.Native.Nat.{ℕ}
 use native.Mathlib.Omega.{arith}
@@ -23,10 +23,10 @@ use Rattle.desk.proofs.answered.Kinds as answered
 use Rattle.desk.proofs.answered.Reads as answered_reads
 use Rattle.desk.proofs.last_reply.Kinds as last_reply_kinds
 use Rattle.desk.proofs.last_reply.Reads as last_reply_reads
-use Rattle.desk.proofs.Line.keep.Kinds as keep
-use Rattle.desk.proofs.Line.keep.Reads as keep_reads
-use Rattle.desk.proofs.Line.blank_before.Kinds as blank_before_kinds
-use Rattle.desk.proofs.Line.blank_before.Reads as blank_before_reads
+use Rattle.desk.proofs.keep.Kinds as keep
+use Rattle.desk.proofs.keep.Reads as keep_reads
+use Rattle.desk.proofs.blank_before.Kinds as blank_before_kinds
+use Rattle.desk.proofs.blank_before.Reads as blank_before_reads
 use Rattle.desk.proofs.with_argument.Kinds as with_argument_kinds
 use Rattle.desk.proofs.with_argument.Reads as with_argument_reads
 use Rattle.desk.proofs.answer_block.Kinds as answer_block_kinds
@@ -43,10 +43,10 @@ pub last_reply_unique : OneOutcome last_reply_kinds.ps last_reply_kinds.r last_r
 last_reply_unique κs a x y s t p q = (p.1.0 ∙ sym q.1.0, p.1.1 ∙ sym q.1.1)
 
 pub keep_unique : OneOutcome keep.ps keep.r keep_reads.Post (λ κs s. s.0.now)
-keep_unique κs a x y s t p q = (refl, p ∙ sym q)
+keep_unique κs a x y s t p q = (p.1.0 ∙ sym q.1.0, p.1.1 ∙ sym q.1.1)
 
 pub blank_before_unique : OneOutcome blank_before_kinds.ps blank_before_kinds.r blank_before_reads.Post (λ κs s. s.0.now)
-blank_before_unique κs a x y s t p q = (refl, p ∙ sym q)
+blank_before_unique κs a x y s t p q = (p.1.0 ∙ sym q.1.0, p.1.1 ∙ sym q.1.1)
 
 pub with_argument_unique : OneReply with_argument_kinds.ps with_argument_kinds.r with_argument_reads.Post
 with_argument_unique κs a x y s t p q = p.0 ∙ sym q.0

@@ -57,23 +57,18 @@ impl Line {
         self.kept = 0;
     }
 
-    // One byte more. A full line drops it: a line so long is refused.
+    // One byte more, as far as there is room.
     fn keep(&mut self, b: u8)
         ensures { self.new ≡ with_more line_room self.old b }
     {
-        if self.kept < LINE {
-            self.row[self.kept] = b;
-            self.kept += 1;
-        }
+        self.kept = keep(&mut self.row, self.kept, b);
     }
 
-    // A blank before each argument but the first.
+    // A blank before argument i, unless it is the first.
     fn blank_before(&mut self, i: usize)
         ensures { self.new ≡ with_blank line_room i self.old }
     {
-        if i > 1 {
-            self.keep(b' ');
-        }
+        self.kept = blank_before(&mut self.row, self.kept, i);
     }
 
     // Argument i after the bytes that are kept.
@@ -85,6 +80,36 @@ impl Line {
         let got = rt.arg(i, &mut self.row[from..]).ok();
         self.kept = with_argument(got, from, LINE);
     }
+}
+
+// One byte more of a line; how many are kept then. A full buffer drops the byte: a line so long is refused.
+// Of the row and not of `Line`: so its contract says every byte, also those past what is kept.
+#[tactic(auto, using(crate::proofs::Kept::with_room, crate::proofs::Kept::full))]
+fn keep(line: &mut [u8], kept: usize, b: u8) -> usize
+    requires { kept ≤ length line.old }
+    ensures within { result ≤ length line.old }
+    ensures value { result ≡ length (with_more (length line.old) (take kept line.old) b) }
+    ensures writes { line.new ≡ over (with_more (length line.old) (take kept line.old) b) line.old }
+{
+    if kept < line.len() {
+        line[kept] = b;
+        return kept + 1;
+    }
+    kept
+}
+
+// A blank before each argument but the first; of the row, as `keep` is.
+#[tactic(auto, using(crate::proofs::Kept::over_itself))]
+fn blank_before(line: &mut [u8], n: usize, i: usize) -> usize
+    requires { n ≤ length line.old }
+    ensures within { result ≤ length line.old }
+    ensures value { result ≡ length (with_blank (length line.old) i (take n line.old)) }
+    ensures writes { line.new ≡ over (with_blank (length line.old) i (take n line.old)) line.old }
+{
+    if i > 1 {
+        return keep(line, n, b' ');
+    }
+    n
 }
 
 // How many bytes a line has with an argument after its first. Where the argument did not fit the line is full, and is refused.

@@ -1,13 +1,12 @@
--- `Line::keep` meets its contract: a byte more, as far as there is room. Assumes nothing.
-use Rattle.std.proofs.Common.{arith}
-use Rattle.desk.specs.Input.{line_room}
-use Rattle.desk.proofs.Kept.{with_room, full}
+-- `Line::keep` meets its contract: what is kept of its row. Assumes nothing.
+use Rattle.std.proofs.Common.{ℕ, List, arith}
+use Rattle.desk.specs.Input.{line_room, with_more}
+use Rattle.desk.proofs.Kept.{line_of_row}
 use Rattle.desk.proofs.Line.keep.Goals as goal
 
-pub returns-then-self-lt-LINE : goal.returns-then-self-lt-LINE
-returns-then-self-lt-LINE c =
-    with_room c.self.inside.row c.args.self.now c.self.inside.kept c.args.b line_room c.self.view_is (omega arith) (omega arith)
-
-pub returns-else-self-lt-LINE : goal.returns-else-self-lt-LINE
-returns-else-self-lt-LINE c =
-    full c.self.inside.row c.args.self.now c.self.inside.kept c.args.b line_room c.self.view_is (omega arith) (omega arith) (omega arith)
+pub returns : goal.returns
+returns c =
+    let kept = c.keep-self-inside in
+    let more = λ (room : ℕ) (line : List ℕ). with_more room line c.args.b in
+    line_of_row more c.self.inside.row c.args.self.now kept.new.line c.self.inside.kept kept.result line_room (omega arith) c.self.view_is
+    kept.ensures.value kept.ensures.writes
