@@ -16,7 +16,7 @@ pub const MIDDLE: u64 = 84;
 
 pub const END: u64 = 2 * MIDDLE;
 
-// The limits in a time, counted in as many parts as a day has.
+// The limits in a time, counted in as many parts as a day has. The time is a number, as in `solar` and `lunar`.
 pub(crate) fn in_time(time: u64) -> u64
     requires { time ≤ anomalistic_half }
     ensures { result ≡ limits time }

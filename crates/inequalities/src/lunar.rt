@@ -23,7 +23,7 @@ pub fn lunar_at(half: LunarHalf, time: u64) -> Result<i64, Refusal>
     Ok(in_half(half, time))
 }
 
-// The lunar inequality at an anomaly: the quick half comes first.
+// The lunar inequality at an anomaly, a plain number, as this contract is public: the quick half comes first.
 #[tactic(auto, unfolding(crate::specs::Lunar::lunar))]
 pub fn lunar(anomaly: u64) -> i64
     requires { anomaly < anomalistic_month }

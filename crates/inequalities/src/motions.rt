@@ -24,7 +24,7 @@ pub fn motion_at(half: LunarHalf, limit: u64) -> Result<u64, Refusal>
     }
 }
 
-// The motion at an anomaly, by its rule: a constant table is laid out anew wherever it is read.
+// The motion at an anomaly, a plain number here too, by its rule: a constant table is laid out anew wherever it is read.
 #[tactic(auto, using(crate::proofs::Sizes::whole_law_le, crate::proofs::MotionAt::quick_rises, crate::proofs::MotionAt::tardy_rises, crate::proofs::MotionAt::motion_quick, crate::proofs::MotionAt::motion_tardy), unfolding(crate::specs::Motion::motion_at))]
 pub fn motion(anomaly: u64) -> u64
     requires { anomaly < anomalistic_month }
