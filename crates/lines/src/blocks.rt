@@ -33,7 +33,7 @@ pub fn answer_block(buf: &mut [u8], have: usize, out: &mut [u8]) -> Block
     Block { written, kept }
 }
 
-// The replies to all lines, from the row's start; how many bytes they have.
+// The replies to all lines, from the row's start; how many bytes they have. The row is a slice with its room asked for, as this contract is public.
 pub fn answer_whole_lines(input: &[u8], out: &mut [u8]) -> usize
     requires { reply_room * length input.now ≤ length out.old }
     ensures value { result ≡ length (output shoushi input.now) }
