@@ -68,7 +68,9 @@ pub fn lengadriu_ask(line: &[u8], row: &mut [u8]) -> Written
     }
 }
 
-// How many bytes the text has, where a list has room for so many numbers.
+// How many bytes the text has, where a list has room for so many numbers. A function of its own, so that no line but `years` takes the room of all
+// months on the stack.
+#[inline(never)]
 fn reply_within<const N: usize>(line: &[u8], row: &mut [u8]) -> Result<u64, Refusal>
     requires { N ≤ most_numbers }
     ensures value { answer_said result ≡ reply_reply (reply_to shoushi N line.now) (length row.old) }

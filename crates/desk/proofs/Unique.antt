@@ -17,6 +17,7 @@ use Rattle.std.specs.declared.io.Eprint as Eprint
 use Rattle.std.specs.declared.env.Env as Env
 use Rattle.rows.proofs.Determined.{OneReply, OneOutcome}
 use Rattle.desk.specs.Input.{Left, AskedBy}
+use Rattle.desk.specs.declared.Joined.{Joined}
 use Rattle.desk.specs.declared.Turn.{Turn}
 use Rattle.desk.specs.declared.Turn.TheVariants.{Begun, Ended, CutShort}
 use Rattle.desk.proofs.answered.Kinds as answered
@@ -91,15 +92,15 @@ module _ (T : RattleType) (laws : Laws T) (print : Print.Ghosts T.Denot) (print_
         → OneTurn x y s.1.1.0.now t.1.1.0.now
     answer_read_unique κs a x y s t p q = one_turn_lem x y _ _ _ _ _ p q
 
--- whether the arguments ask is known by their number
-abbrev OneAsked : Option (List ℕ) → Option (List ℕ) → Type 0
-OneAsked (Some m) (Some n) = Unit {0}
+-- whether the arguments ask is known by their number, and how many are joined
+abbrev OneAsked : Option Joined → Option Joined → Type 0
+OneAsked (Some m) (Some n) = m.arguments ≡ n.arguments
 OneAsked (Some m) None = ⊥
 OneAsked None (Some n) = ⊥
 OneAsked None None = Unit {0}
 
-one_asked : (x y : Option (List ℕ)) (count : ℕ) → AskedBy x count → AskedBy y count → OneAsked x y
-one_asked (Some m) (Some n) count p q = tt
+one_asked : (x y : Option Joined) (count : ℕ) → AskedBy x count → AskedBy y count → OneAsked x y
+one_asked (Some m) (Some n) count p q = omega (arith, p.1, q.1)
 one_asked (Some m) None count p q = omega arith
 one_asked None (Some n) count p q = omega arith
 one_asked None None count p q = tt

@@ -1,12 +1,13 @@
 -- The desk's input: what is kept of a line until it ends, and what the arguments ask. What is read and written cannot be said, so each
 -- turn is held to what it does with the block that it has.
 -- Assumes nothing.
-use Rattle.std.specs.Prelude.{◌≡◌, List, [], ◌∷◌, ◌++◌, ℕ, ◌+◌, ◌≤◌, ◌<◌, Option, Some, None, length, take, if◌then◌else◌}
+use Rattle.std.specs.Prelude.{◌≡◌, List, [], ◌∷◌, ◌++◌, ℕ, suc, ◌+◌, ◌≤◌, ◌<◌, Option, Some, None, length, take, if◌then◌else◌}
 use Rattle.rows.specs.Choice.{◌<?◌, ◌=?◌}
 use Rattle.measure.specs.Epoch.{shoushi}
 use Rattle.frames.specs.LineEnds.{line_end}
 use Rattle.questions.specs.Question.{longest}
 use Rattle.ask.specs.AnswerText.{answer_text}
+use Rattle.desk.specs.declared.Joined.{Joined}
 use Rattle.desk.specs.declared.Turn.{Turn}
 use Rattle.desk.specs.declared.Turn.TheVariants.{Begun, Ended, CutShort}
 
@@ -51,7 +52,7 @@ abbrev pub with_argument : Option ℕ → ℕ → ℕ → ℕ
 with_argument (Some got) from room = from + got
 with_argument None from room = room
 
--- what so many arguments ask, the program's own name among them: nothing exactly where there is no other
-abbrev pub AskedBy : Option (List ℕ) → ℕ → Type 0
-AskedBy (Some line) count = 1 < count
+-- what so many arguments ask, the program's own name among them: all others in one line, and nothing exactly where there is no other
+abbrev pub AskedBy : Option Joined → ℕ → Type 0
+AskedBy (Some asked) count = (1 < count) × (suc asked.arguments ≡ count)
 AskedBy None count = count ≤ 1

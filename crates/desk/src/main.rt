@@ -2,16 +2,17 @@
 // The input comes by blocks, and each line is answered as it ends.
 #![tactic(auto)]
 
-ghost use Rattle.std.specs.Prelude.{◌≡◌, ℕ, ◌+◌, ◌≤◌, ◌<◌, List, [], length, take, Option, unwrap_or};
+ghost use Rattle.std.specs.Prelude.{◌≡◌, ℕ, suc, ◌+◌, ◌≤◌, ◌<◌, List, [], length, take, Option, unwrap_or};
+ghost use Rattle.std.specs.Io.KnownBytes.{ReadConsumes};
 ghost use Rattle.rows.specs.Row.{over};
 ghost use Rattle.measure.specs.Epoch.{shoushi};
-ghost use Rattle.questions.specs.Question.{longest};
+ghost use Rattle.reads.specs.Given.{Within, block_room};
 ghost use Rattle.ask.specs.AnswerText.{answer_text};
 ghost use Rattle.desk.specs.Input.{line_room, with_more, last_text, Left, with_blank, with_argument, Begins, AskedBy};
 
 use ask::YEARS_ROOM;
 use frames::LINE_END;
-use reads::BLOCK;
+use reads::{BLOCK, ReadFailed};
 use std::env::FillError;
 use std::io::Read;
 use std::marker::Model;
@@ -28,6 +29,9 @@ struct Line {
 }
 
 impl Model for Line {
+    ghost use Rattle.std.specs.Prelude.{ℕ, ◌+◌, ◌≤◌, List, take};
+    ghost use Rattle.questions.specs.Question.{longest};
+
     ghost Value = { List ℕ };
 
     ghost view = { λ l. take l.kept l.row };
@@ -79,6 +83,35 @@ impl Line {
         let from = self.kept;
         let got = rt.arg(i, &mut self.row[from..]).ok();
         self.kept = with_argument(got, from, LINE);
+    }
+}
+
+// The arguments in one line, and how many of them are: each follows the one before it, and none is passed over.
+#[derive(Drop)]
+struct Joined {
+    line: Line,
+    arguments: usize,
+}
+
+impl Joined {
+    fn new() -> Self
+        ensures line { result.line ≡ [] }
+        ensures none { result.arguments ≡ 0 }
+    {
+        Joined {
+            line: Line::new(),
+            arguments: 0,
+        }
+    }
+
+    // The argument after those that are joined.
+    fn join(&mut self, rt: &impl Env, i: usize)
+        requires { i ≡ suc self.old.arguments }
+        ensures begins { Begins self.new.line (with_blank line_room i self.old.line) }
+        ensures counted { self.new.arguments ≡ i }
+    {
+        self.line.join(rt, i);
+        self.arguments = i;
     }
 }
 
@@ -212,13 +245,27 @@ fn answer_read(
     answer_block(rt, block, line, buf)
 }
 
+// Reads once: what is read are the input's next bytes, and none only where it has ended. `month_lines` reads so too: shared it would be public, and no
+// contract determines what comes.
+fn read_block<R: Read>(input: &mut R, block: &mut [u8]) -> Result<usize, ReadFailed>
+    requires { block_room ≡ length block.old }
+    ensures within { Within result (length block.old) }
+    ensures consumes { ReadConsumes (R.remaining input.old) (R.remaining input.new) result block.new }
+{
+    let answered = match input.read(block) {
+        Ok(n) => n as isize,
+        Err(_) => -1,
+    };
+    reads::given(answered, block)
+}
+
 // Nothing says that the input ends, so the turns have a number that no run uses up. A failed read is told, and a line that was begun has
 // no reply then: its end was not seen.
 fn answer_lines(rt: &(impl Print + Eprint), input: &mut impl Read, buf: &mut [u8; YEARS_ROOM]) {
     let mut block = [0; BLOCK];
     let mut line = Line::new();
     for _ in 0..u64::MAX {
-        let Ok(read) = reads::read_once(input, &mut block) else {
+        let Ok(read) = read_block(input, &mut block) else {
             let _ = rt.eprintln("desk: the input could not be read to its end");
             return;
         };
@@ -240,24 +287,24 @@ fn argument_count(rt: &impl Env) -> usize {
 }
 
 // The arguments as one line, where there are any. The first is the program's own name.
-fn join_arguments(rt: &impl Env, count: usize) -> Option<Line>
+fn join_arguments(rt: &impl Env, count: usize) -> Option<Joined>
     ensures { AskedBy result count }
 {
     if count <= 1 {
         return None;
     }
-    let mut line = Line::new();
+    let mut asked = Joined::new();
     for i in 1..count {
-        line.join(rt, i);
+        asked.join(rt, i);
     }
-    Some(line)
+    Some(asked)
 }
 
 // A question of the arguments where there are any, else those of the input's lines.
 fn answer(rt: &(impl Env + Print + Eprint), input: &mut impl Read, buf: &mut [u8; YEARS_ROOM]) {
     match join_arguments(rt, argument_count(rt)) {
-        Some(line) => {
-            answer_line(rt, line.bytes(), buf);
+        Some(asked) => {
+            answer_line(rt, asked.line.bytes(), buf);
         }
         None => answer_lines(rt, input, buf),
     }

@@ -2,7 +2,8 @@
 // reply.
 #![tactic(auto)]
 
-ghost use Rattle.std.specs.Prelude.{◌≡◌, [], ◌∷◌, ◌++◌, ◌+◌, ◌^◌, ◌≤◌, ◌<◌, length};
+ghost use Rattle.std.specs.Prelude.{◌≡◌, [], ◌∷◌, ◌++◌, ◌+◌, ◌^◌, ◌≤◌, ◌<◌, length, position};
+ghost use Rattle.rows.specs.Choice.{◌=?◌};
 ghost use Rattle.rows.specs.Reply.{answer_said};
 ghost use Rattle.rows.specs.Row.{over};
 ghost use Rattle.months.specs.Month.{month_said};
@@ -21,13 +22,18 @@ pub const LINE_END: u8 = 0x0A;
 pub const DAY_DIGITS: usize = 5;
 
 // How many bytes the first line of the input has: those before the line end, or all.
+#[tactic(auto, using(crate::proofs::LineEndLaws::length_found))]
 pub fn line_len(input: &[u8]) -> usize
     ensures { result ≡ line_length input.now }
 {
-    input
-        .iter()
-        .position(|b| *b == LINE_END)
-        .unwrap_or(input.len())
+    first_line_end(input).unwrap_or(input.len())
+}
+
+// Where the first line end stands, if there is one.
+fn first_line_end(input: &[u8]) -> Option<usize>
+    ensures { result ≡ position (λ b. b =? line_end) input.now }
+{
+    input.iter().position(|b| *b == LINE_END)
 }
 
 // The rest of the input, after a line of n bytes and its line end. It is handed on as it stands.

@@ -62,12 +62,12 @@ pub fn record_of(span: Span) -> [u64; RECORD_WIDTH]
     ensures { result ≡ record_of (calendar shoushi) span.lunation }
 {
     let kind = kind_by(span.first, last_term(span.next));
-    [
-        span.first,
-        span.next - span.first,
-        month_number(kind),
-        leap_mark(kind),
-    ]
+    let mut record = [0; RECORD_WIDTH];
+    record[FIRST] = span.first;
+    record[LENGTH] = span.next - span.first;
+    record[NUMBER] = month_number(kind);
+    record[MARK] = leap_mark(kind);
+    record
 }
 
 // It stands at the row's start.

@@ -3,7 +3,8 @@
 
 ghost use Rattle.std.specs.Prelude.{◌≡◌, ℕ, ◌*◌, ◌-◌, ◌≤◌, List, [], length, take};
 ghost use Rattle.rows.specs.Row.{over};
-ghost use Rattle.reads.specs.Given.{Within};
+ghost use Rattle.std.specs.Io.KnownBytes.{ReadConsumes};
+ghost use Rattle.reads.specs.Given.{Within, block_room};
 ghost use Rattle.lines.specs.Line.{reply_room};
 ghost use Rattle.lines.specs.Block.{enough, Unfinished};
 ghost use Rattle.month_lines.specs.Input.{read_of, written_for, kept_for, replies_in, turn_after, Left};
@@ -24,13 +25,26 @@ enum Read {
 // Room for the replies to a full buffer.
 const ROOM: usize = REPLY_ROOM * BLOCK;
 
+// Reads once: what is read are the input's next bytes, and none only where it has ended. `desk` reads so too: shared it would be public, and no
+// contract determines what comes.
+fn read_block<R: ReadBytes>(input: &mut R, block: &mut [u8]) -> Result<usize, ReadFailed>
+    ensures within { Within result (length block.old) }
+    ensures consumes { ReadConsumes (R.remaining input.old) (R.remaining input.new) result block.new }
+{
+    let answered = match input.read(block) {
+        Ok(n) => n as isize,
+        Err(_) => -1,
+    };
+    reads::given(answered, block)
+}
+
 // Reads once, after the kept bytes, which stay. This and the answer take the fields of `Begun`, which fit together again when the turn ends.
 fn read_more(input: &mut impl ReadBytes, buf: &mut [u8], kept: usize) -> Result<usize, ReadFailed>
-    requires { kept ≤ length buf.old }
+    requires { (kept ≤ length buf.old) × (block_room ≡ length buf.old) }
     ensures within { Within result (length buf.old - kept) }
     ensures buf_unchanged { take kept buf.new ≡ take kept buf.old }
 {
-    reads::read_once(input, &mut buf[kept..])
+    read_block(input, &mut buf[kept..])
 }
 
 // Writes out; whether all of it went through. Where it did not, standard error says so, and the program ends.

@@ -32,7 +32,7 @@ fn sheet_in(text: &[u8]) -> Option<Sheet>
     let mut left = text;
     // A mark alone says where the next begins: no iterator of the library does.
     while !left.is_empty() {
-        sheet = sheets::with_mark(sheet, mark_in(left)?);
+        sheet.lay(mark_in(left)?);
         left = after_mark(left);
     }
     Some(sheet)

@@ -8,6 +8,10 @@ pub data Given : Type 0 where
   bytes : ℕ → Given
   failed : Given
 
+-- room for a block of the input
+abbrev pub block_room : ℕ
+block_room = 65_536
+
 -- a negative number tells of a failure, and a row gets no more bytes than it has
 unfoldable pub given : ℤ → ℕ → Given
 given (pos n) room = bytes (min n room)

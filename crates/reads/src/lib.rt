@@ -2,10 +2,7 @@
 #![tactic(auto)]
 
 ghost use Rattle.std.specs.Prelude.{◌≡◌, length};
-ghost use Rattle.std.specs.Io.KnownBytes.{ReadConsumes};
 ghost use Rattle.reads.specs.Given.{given, got_said, Within};
-
-use std::io::Read;
 
 // Room for a block of the input.
 pub const BLOCK: usize = 65_536;
@@ -14,8 +11,8 @@ pub const BLOCK: usize = 65_536;
 #[derive(Debug, Clone, Copy, PartialEq, Eq)]
 pub struct ReadFailed;
 
-// What the number says that a read into the row answered: so many bytes, 0 where the input has ended. A negative one says that it failed: that is
-// this function's promise. Both programs read by `read_once`.
+// What the number says that a read into the row answered: so many bytes, 0 where the input has ended. A negative one says that it failed. Both
+// programs judge by it what they read; the reads themselves are theirs, since no contract determines what comes.
 pub fn given(answered: isize, row: &[u8]) -> Result<usize, ReadFailed>
     ensures value { got_said result ≡ given answered (length row.now) }
     ensures within { Within result (length row.now) }
@@ -24,12 +21,4 @@ pub fn given(answered: isize, row: &[u8]) -> Result<usize, ReadFailed>
         Ok(n) => Ok(n.min(row.len())),
         Err(_) => Err(ReadFailed),
     }
-}
-
-// Reads into the row, once: what is read are the input's next bytes, and none only where it has ended.
-pub fn read_once<R: Read>(input: &mut R, row: &mut [u8]) -> Result<usize, ReadFailed>
-    ensures within { Within result (length row.old) }
-    ensures consumes { ReadConsumes (R.remaining input.old) (R.remaining input.new) result row.new }
-{
-    input.read(row).map_err(|_| ReadFailed)
 }

@@ -66,7 +66,7 @@ pub(crate) fn put_signed(z: i64, line: &mut Line) -> usize
     ensures value { result ≡ length (signed_text z) }
     ensures writes { FillsLine (signed_text z) line.old line.new }
 {
-    let magnitude = z.unsigned_abs();
+    let magnitude = signed::magnitude_of(z);
     if z < 0 {
         put(b"-%\n", &[magnitude], line)
     } else {

@@ -29,6 +29,7 @@ pub fn write_text(template: &[u8], numbers: &[u64], row: &mut [u8]) -> Result<u6
 
 // The same, for a caller whose row has the room. The row is lent and counted by hand: with no heap a text is no String.
 #[tactic(auto, using(rows::proofs::Row::over_is, crate::proofs::TextLaws::filled_none))]
+#[inline]
 pub fn fill(template: &[u8], numbers: &[u64], row: &mut [u8]) -> usize
     requires { text_room template.now ≤ length row.old }
     ensures value { result ≡ length (filled template.now numbers.now) }
@@ -49,6 +50,7 @@ pub fn fill(template: &[u8], numbers: &[u64], row: &mut [u8]) -> usize
 
 // A number in decimal.
 #[tactic(auto, using(crate::proofs::DecimalLaws::decimal_written, rows::proofs::Row::over_is))]
+#[inline(never)]
 fn put_number(n: u64, row: &mut [u8]) -> usize
     requires { most_digits ≤ length row.old }
     ensures within { result ≤ most_digits }
