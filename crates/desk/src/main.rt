@@ -86,7 +86,7 @@ impl Line {
     }
 }
 
-// The arguments in one line, and how many of them are: each follows the one before it, and none is passed over.
+// The arguments in one line, and how many they are: each follows the one before it, and none is passed over.
 #[derive(Drop)]
 struct Joined {
     line: Line,
