@@ -245,8 +245,8 @@ fn answer_read(
     answer_block(rt, block, line, buf)
 }
 
-// Reads once: what is read are the input's next bytes, and none only where it has ended. `month_lines` reads so too: shared it would be public, and no
-// contract determines what comes.
+// Reads once: what is read are the input's next bytes, and none only where it has ended. `month_lines` reads so too. `reads::read_once` is for other callers:
+// here `given` says what the read answered, by a contract that determines it.
 fn read_block<R: Read>(input: &mut R, block: &mut [u8]) -> Result<usize, ReadFailed>
     requires { block_room ≡ length block.old }
     ensures within { Within result (length block.old) }

@@ -25,8 +25,8 @@ enum Read {
 // Room for the replies to a full buffer.
 const ROOM: usize = REPLY_ROOM * BLOCK;
 
-// Reads once: what is read are the input's next bytes, and none only where it has ended. `desk` reads so too: shared it would be public, and no
-// contract determines what comes.
+// Reads once: what is read are the input's next bytes, and none only where it has ended. `desk` reads so too. `reads::read_once` is for other callers:
+// here `given` says what the read answered, by a contract that determines it.
 fn read_block<R: ReadBytes>(input: &mut R, block: &mut [u8]) -> Result<usize, ReadFailed>
     ensures within { Within result (length block.old) }
     ensures consumes { ReadConsumes (R.remaining input.old) (R.remaining input.new) result block.new }
